@@ -1,0 +1,9 @@
+pub mod Tree
+pub mod Order
+pub mod Curve
+pub mod Scene
+pub mod Taylor
+pub mod Weights
+pub mod Pairs
+pub mod Sums
+pub mod Posterior
