@@ -7,3 +7,4 @@ pub mod Weights
 pub mod Pairs
 pub mod Sums
 pub mod Posterior
+pub mod Sequence
