@@ -1,0 +1,4 @@
+pub mod DigitLemmas
+pub mod LabelLemmas
+pub mod NumeralLemmas
+pub mod WrittenLemmas

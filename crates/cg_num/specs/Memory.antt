@@ -1,0 +1,6 @@
+-- Want of memory.
+use Rattle.cg_num.specs.declared.no_memory.NoMemory.{NoMemory}
+
+-- the one value of `NoMemory`
+abbrev pub no_memory : NoMemory
+no_memory = record {}
