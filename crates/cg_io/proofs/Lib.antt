@@ -1,0 +1,4 @@
+pub mod FilesInLemmas
+pub mod ReaderLemmas
+pub mod ShelfLemmas
+pub mod SinkLemmas

@@ -1,0 +1,28 @@
+-- What is taken from a reader in turns.
+use Rattle.std.proofs.Common.{◌≡◌, ℕ, ◌+◌, ◌≤◌, List, ◌++◌, length, drop, Option, Some, None, sym, ap, ◌∙◌, append_assoc, arith, length-append, length-drop, subst, refl}
+use Rattle.std.proofs.lemmas.List.{take-append-drop, length-take}
+use Rattle.std.specs.Prelude.{Ok}
+use Rattle.std.specs.Io.{StartsWith}
+use Rattle.std.specs.Io.KnownBytes.{Consumes}
+use Rattle.cg_io.specs.FileShelf.{TakesAtMost}
+use Rattle.cg_io.specs.Shelf.{Appends}
+use Rattle.cg_io.specs.declared.shelf.ReadEnd.TheVariants.{Whole}
+
+-- two turns, one after the other
+Consumes-append : (a b c : Option (List ℕ)) (xs ys : List ℕ) → Consumes a b xs → Consumes b c ys → Consumes a c (xs ++ ys)
+Consumes-append None b c xs ys h k = tt
+Consumes-append (Some p) None c xs ys h k = absurd h
+Consumes-append (Some p) (Some q) None xs ys h k = absurd k
+Consumes-append (Some p) (Some q) (Some r) xs ys h k = h ∙ ap (λ zs. xs ++ zs) k ∙ sym (append_assoc xs ys r)
+
+-- what two turns took together
+pub TakesAtMost-append : (a b c : Option (List ℕ)) (xs ys : List ℕ) (most : ℕ) → Consumes a b xs → Consumes b c ys → length xs + length ys ≤ most → TakesAtMost most a c
+TakesAtMost-append a b c xs ys most h k le = (xs ++ ys, Consumes-append a b c xs ys h k, omega (arith, length-append xs ys))
+
+-- a list is no longer than one that starts with it
+pub StartsWith-length : (before after : List ℕ) → StartsWith after before → length before ≤ length after
+StartsWith-length before after kept = omega (arith, ap length kept, length-take (length before) after)
+
+-- what stands past the old bytes was appended
+pub Appends-whole : (limit : ℕ) (before after : List ℕ) → StartsWith after before → length after ≤ length before + limit → Appends limit before after (Ok Whole)
+Appends-whole limit before after kept within = (drop (length before) after, omega (arith, length-drop (length before) after), sym (take-append-drop (length before) after) ∙ ap (λ zs. zs ++ drop (length before) after) kept)

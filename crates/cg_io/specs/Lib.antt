@@ -1,0 +1,8 @@
+pub mod Calls
+pub mod Causes
+pub mod FileShelf
+pub mod MemShelf
+pub mod MemSink
+pub mod Shelf
+pub mod Sink
+pub mod StreamSink
