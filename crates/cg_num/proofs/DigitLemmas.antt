@@ -1,5 +1,5 @@
 -- Digits in front of others, and the number that digits write.
-use Rattle.std.proofs.Common.{◌≡◌, ℕ, zero, suc, ◌+◌, ◌-◌, ◌*◌, ◌^◌, ◌<◌, ◌≤◌, Bool, true, false, ◌==◌, ◌&&◌, List, [], ◌∷◌, ◌++◌, length, take, drop, refl, ap, ◌∙◌, sym, subst, cond, min, codes, arith, lit<}
+use Rattle.std.proofs.Common.{◌≡◌, ℕ, zero, suc, ◌+◌, ◌-◌, ◌*◌, ◌^◌, ◌<◌, ◌≤◌, Bool, true, false, ◌==◌, List, [], ◌∷◌, ◌++◌, length, take, drop, refl, ap, ◌∙◌, sym, cond, min, codes, arith, lit<}
 use Rattle.std.proofs.Math.Nat.{pow-suc, pow-le-pow_right}
 use Rattle.std.proofs.lemmas.Bool.{eqb-true}
 use Rattle.std.proofs.lemmas.Grind.{common_steps}
@@ -18,6 +18,7 @@ list_all-take_prefix p (x ∷ xs) = by_test (p x) refl (list_all-take_prefix p x
     by_test true e others = let next : 1 + prefix_len p xs ≡ suc (prefix_len p xs) = omega arith in rw (next, e) others
     by_test false e others = refl
 
+-- what is left of passing elements passes
 pub list_all-drop : {X : Type 0} (p : X → Bool) (n : ℕ) (xs : List X) → list_all p xs ≡ true → list_all p (drop n xs) ≡ true
 list_all-drop p zero xs h = h
 list_all-drop p (suc n) [] h = refl
@@ -28,6 +29,7 @@ after : (n : ℕ) (digits : List ℕ) → fold (λ n c. n * 10 + (c - 48)) n dig
 after n [] = omega arith
 after n (c ∷ cs) = rw (pow-suc 10 (length cs)) (omega (arith, after (n * 10 + (c - 48)) cs, after (0 * 10 + (c - 48)) cs))
 
+-- the number of digits that stand behind one another
 pub number_of-append : (xs ys : List ℕ) → number_of (xs ++ ys) ≡ number_of xs * 10 ^ length ys + number_of ys
 number_of-append xs ys = fold-append (λ n c. n * 10 + (c - 48)) 0 xs ys ∙ after (number_of xs) ys
 
@@ -44,6 +46,7 @@ number_of-significant (c ∷ cs) = by_test (c == 48) refl (number_of-significant
         rw next (others ∙ sym (ap (λ n. fold (λ n c. n * 10 + (c - 48)) n cs) zero_digit))
     by_test false e others = refl
 
+-- a number of few digits is below a greater power of ten
 pub below_ten_to : (n i k : ℕ) → n < 10 ^ i → i ≤ k → n < 10 ^ k
 below_ten_to n i k below h = omega (arith, pow-le-pow_right {n = 10} (lit< tt) {i = i} {j = k} h)
 
@@ -54,12 +57,14 @@ three_of_copied (a ∷ []) = refl
 three_of_copied (a ∷ b ∷ []) = refl
 three_of_copied (a ∷ b ∷ c ∷ others) = let all : min (length (a ∷ b ∷ c ∷ others)) 3 ≡ 3 = omega arith in rw all
 
+-- three decimals are three
 pub length-three_of : (decimals : List ℕ) → length (three_of decimals) ≡ 3
 length-three_of [] = refl
 length-three_of (a ∷ []) = refl
 length-three_of (a ∷ b ∷ []) = refl
 length-three_of (a ∷ b ∷ c ∷ others) = refl
 
+-- and they are digits
 pub list_all-three_of : (decimals : List ℕ) → list_all is_ascii_digit decimals ≡ true → list_all is_ascii_digit (three_of decimals) ≡ true
 list_all-three_of [] h = refl
 list_all-three_of (a ∷ []) h = grind (arith, common_steps)

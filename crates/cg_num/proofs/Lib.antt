@@ -1,4 +1,5 @@
 pub mod DigitLemmas
 pub mod LabelLemmas
 pub mod NumeralLemmas
+pub mod ShortestLemmas
 pub mod WrittenLemmas

@@ -1,16 +1,16 @@
 -- The parts of a number are found in just those texts that are made of them.
-use Rattle.std.proofs.Common.{◌≡◌, ℕ, zero, suc, ◌+◌, ◌<◌, ◌≤◌, Bool, true, false, ◌==◌, ◌&&◌, ◌||◌, ◌⊎◌, inl, inr, List, [], ◌∷◌, ◌++◌, length, take, drop, codes, Some, None, Option, refl, ap, ◌∙◌, sym, subst, cond, arith, nat_lt}
+use Rattle.std.proofs.Common.{◌≡◌, ℕ, ◌≤◌, Bool, true, false, ◌==◌, ◌&&◌, ◌||◌, inl, inr, List, [], ◌∷◌, ◌++◌, length, take, drop, codes, Some, None, Option, refl, ap, ◌∙◌, sym, subst, cond, arith, nat_lt}
 use Rattle.std.proofs.Math.Dec.{eqb-suc-zero}
 use Rattle.std.proofs.Math.Seq.{take-append_seam, drop-append_seam}
 use Rattle.std.proofs.lemmas.Bool.{eqb-true}
 use Rattle.std.proofs.lemmas.Bool.Decides.{nat_tests}
-use Rattle.std.proofs.lemmas.Grind.{common_steps}
 use Rattle.std.proofs.lemmas.List.{take-append-drop}
 use Rattle.std.specs.List.{prefix_len, list_all}
 use Rattle.std.specs.Char.{is_ascii_digit}
 use Rattle.cg_num.specs.Numeral.{Numeral, AreDigits, IsSign, IsFraction, Spells, is_negative, without_sign, decimals_of, joined, numeral_of, PartsAreFound}
 use Rattle.cg_num.proofs.DigitLemmas.{list_all-take_prefix}
 
+-- both sides of a test that passes
 both_true : (a b : Bool) → (a && b) ≡ true → (a ≡ true) × (b ≡ true)
 both_true true b h = (refl, h)
 both_true false b h = absurd cc
@@ -93,6 +93,7 @@ fraction_from_decimals (c ∷ cs) decimals found = by_test (c == 46 && (nat_lt 0
         inr (subst AreDigits same are_digits, cc (eqb-true c 46 point.0))
     by_test false passes found = absurd cc
 
+-- the parts that a joined numeral came from
 joined_found : (negative : Bool) (whole : List ℕ) (found : Option (List ℕ)) (numeral : Numeral) → joined negative whole found ≡ Some numeral
     → (1 ≤ length whole) × (negative ≡ numeral.negative) × (whole ≡ numeral.whole) × (found ≡ Some numeral.decimals)
 joined_found negative whole None numeral h = absurd cc
@@ -103,6 +104,7 @@ joined_found negative (c ∷ cs) (Some decimals) numeral h =
     let same : found ≡ numeral = cc in
     (omega arith, ap (λ n. n.negative) same, ap (λ n. n.whole) same, ap (λ n. Some n.decimals) same)
 
+-- a text is made of the parts that are found in it
 spells_from_found : (text : List ℕ) (numeral : Numeral) → numeral_of text ≡ Some numeral → Spells text numeral
 spells_from_found text numeral h =
     let body : List ℕ = without_sign text in
@@ -119,6 +121,7 @@ spells_from_found text numeral h =
       joined = split.2 ∙ ap (λ x. split.0 ++ x) (sym (take-append-drop n body) ∙ ap (λ w. w ++ drop n body) found.2);
     }
 
+-- both ways
 pub parts_are_found : PartsAreFound
 parts_are_found text numeral = (
   spells_from_found text numeral,

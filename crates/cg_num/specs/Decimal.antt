@@ -1,5 +1,5 @@
 -- Decimal numbers: the thousandths that a text says, the first fault of a text that says none, and how a number is written. chron's own.
-use Rattle.std.specs.Prelude.{◌≡◌, ℕ, ◌+◌, ◌-◌, ◌*◌, ◌/◌, ◌%◌, Bool, ◌==◌, not, List, [], ◌∷◌, ◌++◌, length, take, drop, codes, decimal, fold, Option, Some, None, Result, Ok, Err, ℤ, pos, negsuc, neg_ℤ, ◌≤ℤ◌, unsigned_abs, int_lt, nat_lt, if◌then◌else◌}
+use Rattle.std.specs.Prelude.{ℕ, ◌+◌, ◌-◌, ◌*◌, Bool, ◌==◌, not, List, ◌++◌, length, take, drop, codes, fold, Option, Some, None, Result, Ok, Err, ℤ, pos, negsuc, neg_ℤ, ◌≤ℤ◌, nat_lt, if◌then◌else◌}
 use Rattle.std.specs.List.{prefix_len, list_all}
 use Rattle.cg_num.specs.Numeral.{Numeral, numeral_of}
 use Rattle.cg_num.specs.declared.decimal.NumFault.{NumFault}
@@ -9,6 +9,7 @@ use Rattle.cg_num.specs.declared.decimal.NumFault.TheVariants.{NotANumber, TooWi
 abbrev pub IsDecimal : ℤ → Type 0
 IsDecimal number = (negsuc 999999999999998 ≤ℤ number) × (number ≤ℤ pos 999999999999999)
 
+-- the byte is the digit 0
 abbrev pub is_zero : ℕ → Bool
 is_zero c = c == 48
 
@@ -20,6 +21,7 @@ number_of digits = fold (λ n c. n * 10 + (c - 48)) 0 digits
 abbrev pub three_of : List ℕ → List ℕ
 three_of decimals = take 3 (decimals ++ codes "000")
 
+-- the number of a magnitude, with a minus or without
 abbrev pub signed : Bool → ℕ → ℤ
 signed negative magnitude = if negative then neg_ℤ (pos magnitude) else pos magnitude
 
@@ -34,6 +36,7 @@ value_of numeral =
     else (if not (list_all is_zero (drop 3 numeral.decimals)) then Err TooManyDecimals
     else Ok (signed numeral.negative (number_of (numeral.whole ++ three_of numeral.decimals))))
 
+-- the same where there may be no numeral
 abbrev pub value_if : Option Numeral → Result ℤ NumFault
 value_if None = Err NotANumber
 value_if (Some numeral) = value_of numeral

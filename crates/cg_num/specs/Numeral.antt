@@ -14,6 +14,7 @@ pub record AreDigits (text : List ℕ) : Type 0 where
   pub some : 1 ≤ length text
   pub digits : IsTrue (list_all is_ascii_digit text)
 
+-- a minus, or nothing or a plus
 abbrev pub IsSign : Bool → List ℕ → Type 0
 IsSign true sign = sign ≡ codes "-"
 IsSign false sign = (sign ≡ []) ⊎ (sign ≡ codes "+")
@@ -31,6 +32,7 @@ pub record Spells (text : List ℕ) (numeral : Numeral) : Type 0 where
   pub decimals : IsFraction numeral.decimals fraction
   pub joined : text ≡ sign ++ (numeral.whole ++ fraction)
 
+-- the sign is a minus
 abbrev pub is_negative : List ℕ → Bool
 is_negative text = slice_index text 0 == 45
 
@@ -39,11 +41,12 @@ abbrev pub without_sign : List ℕ → List ℕ
 without_sign [] = []
 without_sign (c ∷ cs) = if c == 43 || c == 45 then cs else c ∷ cs
 
--- the digits of a fraction
+-- the digits of a fraction, if it is one
 abbrev pub decimals_of : List ℕ → Option (List ℕ)
 decimals_of [] = Some []
 decimals_of (c ∷ cs) = if c == 46 && (nat_lt 0 (length cs) && list_all is_ascii_digit cs) then Some cs else None
 
+-- the numeral of a sign, the whole digits and the decimals, if there are whole digits
 abbrev pub joined : Bool → List ℕ → Option (List ℕ) → Option Numeral
 joined negative whole None = None
 joined negative whole (Some decimals) =

@@ -6,7 +6,8 @@ use crate::year::Year;
 use itoa::Buffer;
 use std::alloc::Global;
 
-/// Appends the year's label, as `AD 1950` or `53 BC`: no leading zero, and one blank.
+/// Appends the year's label, as `AD 1950` or `53 BC`: no leading zero, and one blank. A year of
+/// `Year::of_calendar` is labelled by its own number.
 ///
 /// `NoMemory` leaves `out` as it was.
 pub fn write_label(alloc: Global, year: &Year, out: &mut Vec<u8>) -> Result<(), NoMemory>
@@ -34,7 +35,8 @@ fn label_of(alloc: Global, year: &Year) -> Result<Vec<u8>, NoMemory>
     Ok(label)
 }
 
-/// The law that a calendar year is printed as itself: `AD n` for n from 1 on, and `n BC` for -n. Does nothing.
+/// The law that a calendar year is printed as itself: `AD n` for n from 1 on, and `n BC` for -n.
+/// Does nothing.
 pub fn labels_name_their_years()
     ensures { LabelsNameTheirYears }
 {}

@@ -16,5 +16,5 @@ pub use decimal::{Decimal, NumFault};
 pub use label::{labels_name_their_years, write_label};
 pub use no_memory::NoMemory;
 pub use reading::{numerals_have_one_form, read_decimal};
-pub use writing::{what_is_written_is_read, write_decimal};
+pub use writing::{what_is_written_is_read, what_is_written_is_shortest, write_decimal};
 pub use year::Year;

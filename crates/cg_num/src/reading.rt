@@ -6,11 +6,12 @@ ghost use Rattle.cg_num.specs.Decimal.{is_zero, number_of, three_of, significant
 
 use crate::decimal::{Decimal, NumFault};
 
-/// The number that the text says: an optional sign, digits, and optionally a point with digits. Exact.
+/// The number that the text says: an optional sign, digits, and optionally a point with digits.
+/// Exact.
 ///
-/// `NotANumber` where the text hasn't that form, else `TooWide` where more than twelve digits stand before the
-/// point after leading zeros, else `TooManyDecimals` where a digit other than 0 stands past the third decimal.
-/// Takes no memory.
+/// `NotANumber` where the text hasn't that form, else `TooWide` where more than twelve digits stand
+/// before the point after leading zeros, else `TooManyDecimals` where a digit other than 0 stands
+/// past the third decimal. Takes no memory.
 #[tactic(auto, unfolding(crate::specs::Decimal::decimal_of))]
 pub fn read_decimal(text: &[u8]) -> Result<Decimal, NumFault>
     ensures { result ≡ decimal_of text.now }
@@ -23,7 +24,8 @@ pub fn read_decimal(text: &[u8]) -> Result<Decimal, NumFault>
     }
 }
 
-/// The law that the parts of a number are found in just those texts that have its form. Does nothing.
+/// The law that the parts of a number are found in just those texts that are made of them. Does
+/// nothing.
 pub fn numerals_have_one_form()
     ensures { PartsAreFound }
 {}
@@ -70,7 +72,11 @@ fn are_digits(text: &[u8]) -> bool
 fn value_of(negative: bool, whole: &[u8], decimals: &[u8]) -> Result<Decimal, NumFault>
     requires whole { IsTrue (list_all is_ascii_digit whole.now) }
     requires decimals { IsTrue (list_all is_ascii_digit decimals.now) }
-    ensures { result ≡ value_of (record { negative = negative; whole = whole.now; decimals = decimals.now }) }
+    ensures { result ≡ value_of (record {
+      negative = negative;
+      whole = whole.now;
+      decimals = decimals.now;
+    }) }
 {
     if significant(whole).len() > 12 {
         return Err(NumFault::TooWide);

@@ -1,13 +1,13 @@
 ghost use Rattle.std.specs.Prelude.{◌≡◌, ◌+◌, ◌<◌, ◌≤◌, ◌++◌, IfOk, OnOk, OnErr};
-ghost use Rattle.cg_num.specs.Written.{decimal_text, fraction_text, fraction_len, WrittenIsRead};
+ghost use Rattle.cg_num.specs.Written.{decimal_text, fraction_text, fraction_len, WrittenIsRead, ShortestIsWritten};
 
 use crate::decimal::Decimal;
 use crate::no_memory::NoMemory;
 use itoa::Buffer;
 use std::alloc::Global;
 
-/// Appends the number in decimal digits, as `-50.5`: no needless zeros, and no point for a whole number.
-/// `read_decimal` reads the same number from it.
+/// Appends the number in decimal digits, as `-50.5`: no needless zeros, and no point for a whole
+/// number. `read_decimal` reads the same number from it, and from no shorter text.
 ///
 /// `NoMemory` leaves `out` as it was.
 pub fn write_decimal(alloc: Global, number: &Decimal, out: &mut Vec<u8>) -> Result<(), NoMemory>
@@ -22,6 +22,11 @@ pub fn write_decimal(alloc: Global, number: &Decimal, out: &mut Vec<u8>) -> Resu
 /// The law that what is written of a number is read as the same number. Does nothing.
 pub fn what_is_written_is_read()
     ensures { WrittenIsRead }
+{}
+
+/// The law that no shorter text than the written one is read as the number. Does nothing.
+pub fn what_is_written_is_shortest()
+    ensures { ShortestIsWritten }
 {}
 
 #[tactic(auto, unfolding(crate::specs::Written::decimal_text))]

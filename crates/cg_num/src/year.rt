@@ -35,8 +35,8 @@ impl Year {
         }
     }
 
-    /// The year of a calendar year, AD positive and BC negative. `None` exactly for 0, which is no year, and
-    /// outside -58,051 to 2,950. Takes no memory.
+    /// The year of a calendar year, AD positive and BC negative. `None` exactly for 0, which is no
+    /// year, and outside -58,051 to 2,950. Takes no memory.
     pub fn of_calendar(number: i64) -> Option<Year>
         ensures some { IfSome result (λ year. year ≡ bp_of_calendar number) }
         ensures range { IsSome result ↔ IsCalendarYear number }

@@ -1,4 +1,3 @@
-use Rattle.std.proofs.Common.{arith}
 use Rattle.cg_num.proofs.DigitLemmas.{three_of_copied}
 use Rattle.cg_num.proofs.reading.three_of.Goals as goal
 
