@@ -1,4 +1,4 @@
--- Calls that are counted from 1, of which some are to fail.
+-- Calls that are counted from 1, of which some are to fail. chron's own.
 use Rattle.std.specs.Prelude.{ℕ, ◌+◌, List, [], ◌∷◌, ◌++◌, Contains}
 use Rattle.cg_io.specs.Causes.{one_more}
 

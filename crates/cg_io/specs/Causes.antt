@@ -1,4 +1,4 @@
--- Faults are counted by what is outside.
+-- Faults are counted by what is outside. chron's own.
 use Rattle.std.specs.Prelude.{ℕ, ◌+◌, ◌-◌, ◌^◌, ◌≤◌, min}
 
 -- the count one higher, which stays at its type's end

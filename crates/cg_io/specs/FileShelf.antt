@@ -1,4 +1,4 @@
--- What reading a file to its end takes from a reader and answers. A reader may tell the bytes that it has left.
+-- What reading a file to its end takes from a reader and answers, where the reader tells what it has left. chron's own.
 use Rattle.std.specs.Prelude.{◌≡◌, ℕ, ◌<◌, ◌≤◌, List, ◌++◌, length, Option, Some, None, Result, Ok, Err}
 use Rattle.std.specs.Io.KnownBytes.{Consumes}
 use Rattle.cg_io.specs.declared.shelf.ReadEnd.{ReadEnd}

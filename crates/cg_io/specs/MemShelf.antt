@@ -1,4 +1,4 @@
--- A shelf in memory.
+-- A shelf in memory. chron's own.
 use Rattle.std.specs.Prelude.{ℕ, List, map, Result, String, refl}
 use Rattle.std.specs.Ordering.{nat_cmp}
 use Rattle.std.specs.Cmp.Lexicographic.{slice_cmp}

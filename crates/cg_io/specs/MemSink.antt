@@ -1,4 +1,4 @@
--- A sink in memory.
+-- A sink in memory. chron's own.
 use Rattle.std.specs.Prelude.{◌≡◌, ◌⊎◌, ℕ, ◌+◌, ◌-◌, ◌≤◌, ◌<◌, ◌^◌, List, [], ◌++◌, length, take, Result, Ok, Err}
 use Rattle.cg_io.specs.Causes.{one_more}
 use Rattle.cg_io.specs.Calls.{Counted, no_calls, after_call, IsToFail}

@@ -1,4 +1,4 @@
--- What a shelf of files tells, and what a read of it answers.
+-- What a shelf of files tells, and what a read of it answers. chron's own.
 use Rattle.std.specs.Prelude.{◌≡◌, ◌⊎◌, ℕ, ◌+◌, ◌<◌, ◌≤◌, List, ◌++◌, length, Option, Some, None, Result, Ok, Err, Contains}
 use Rattle.cg_io.specs.Causes.{one_more}
 use Rattle.cg_io.specs.declared.shelf.ReadEnd.{ReadEnd}

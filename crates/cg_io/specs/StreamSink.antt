@@ -1,4 +1,4 @@
--- A sink over a stream.
+-- A sink over a stream. chron's own.
 use Rattle.std.specs.Prelude.{ℕ, refl}
 use Rattle.std.specs.Coded.{Coded, code_by, coded×, coded_ℕ}
 

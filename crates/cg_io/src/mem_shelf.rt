@@ -61,7 +61,8 @@ impl MemShelf {
 
     /// The read of this number is to fail.
     pub fn fail_on(&mut self, call: u64) -> Result<(), ShelfFault>
-        ensures ok { OnOk result (self.new ≡ record self.old { calls = with_failing self.old.calls call }) }
+        ensures ok { OnOk result (self.new ≡
+            record self.old { calls = with_failing self.old.calls call }) }
         ensures err { OnErr result (self.new ≡ self.old) }
         ensures only_memory { IsOkUnless result ShelfFault.NoMemory }
     {
@@ -77,7 +78,8 @@ impl MemShelf {
         limit: usize,
     ) -> Result<ReadEnd, ShelfFault>
         ensures appends { Appends limit into.old.items into.new.items result }
-        ensures answers { Answers (told_files self.old) name.now limit into.old.items into.new.items result }
+        ensures answers { Answers (told_files self.old) name.now limit
+            into.old.items into.new.items result }
         ensures after { self.new ≡ record self.old { calls = after_call self.old.calls } }
     {
         if self.calls.count() {
@@ -109,7 +111,8 @@ impl Shelf for MemShelf {
 
     fn read(&mut self, name: &str, into: &mut Vec<u8>, limit: usize) -> Result<ReadEnd, ShelfFault>
         ensures appends { Appends limit into.old.items into.new.items result }
-        ensures answers { Answers (told_files self.old) name.now limit into.old.items into.new.items result }
+        ensures answers { Answers (told_files self.old) name.now limit
+            into.old.items into.new.items result }
         ensures later { self.old.faults ≤ self.new.faults }
         ensures after { self.new ≡ after_answer self.old result }
     {

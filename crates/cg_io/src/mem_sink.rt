@@ -24,6 +24,9 @@ impl From<AllocError> for SinkNoMemory {
 }
 
 /// Output in memory, which tells it. Writes are counted from 1, and some may be told to fail.
+///
+/// A write is for its piece, cut to the most bytes of one write. All of that is taken, unless the
+/// room left is less or the write is one that is to fail.
 #[derive(Drop)]
 pub struct MemSink {
     bytes: Vec<u8>,
@@ -75,7 +78,8 @@ impl MemSink {
 
     /// The write of this number is to fail.
     pub fn fail_on(&mut self, call: u64) -> Result<(), SinkNoMemory>
-        ensures ok { OnOk result (self.new ≡ record self.old { calls = with_failing self.old.calls call }) }
+        ensures ok { OnOk result (self.new ≡
+            record self.old { calls = with_failing self.old.calls call }) }
         ensures err { OnErr result (self.new ≡ self.old) }
     {
         self.calls.fail_on(call)?;

@@ -76,9 +76,13 @@ pub trait Shelf {
         ensures { result ≡ faults self.now };
 
     /// Appends the bytes of a file to `into`, where these are at most `limit` bytes.
+    ///
+    /// `Failed` comes only where the count of faults rose in this call. After a fault and after
+    /// `TooLong`, `into` is as it was.
     fn read(&mut self, name: &str, into: &mut Vec<u8>, limit: usize) -> Result<ReadEnd, ShelfFault>
         ensures appends { Appends limit into.old.items into.new.items result }
         ensures later { faults self.old ≤ faults self.new }
         ensures cause { result ≡ Err ShelfFault.Failed → Rose (faults self.old) (faults self.new) }
-        ensures told { TellsRead (told self.old) (told self.new) name.now limit into.old.items into.new.items result };
+        ensures told { TellsRead (told self.old) (told self.new) name.now limit
+            into.old.items into.new.items result };
 }

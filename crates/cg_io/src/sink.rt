@@ -21,6 +21,8 @@ pub trait Sink {
         ensures { result ≡ faults self.now };
 
     /// Takes bytes from the front of a piece, at least one, and returns how many.
+    ///
+    /// A fault comes only where the count of faults rose in this call, and then nothing was taken.
     fn write(&mut self, piece: &[u8]) -> Result<usize, SinkFault>
         requires { 0 < length piece.now }
         ensures some { IfOk result (λ n. (0 < n) × (n ≤ length piece.now)) }

@@ -54,9 +54,11 @@ impl<W: Write + Drop> Sink for StreamSink<W> {
         requires { 0 < length piece.now }
         ensures some { IfOk result (λ n. (0 < n) × (n ≤ length piece.now)) }
         ensures later { self.old.faults ≤ self.new.faults }
-        ensures faults { self.new.faults ≡ (if is_ok result then self.old.faults else one_more self.old.faults) }
+        ensures faults { self.new.faults ≡
+            (if is_ok result then self.old.faults else one_more self.old.faults) }
         // What a stream tells that it holds grew by what was taken.
-        ensures stream { WriteAppends (W.contents self.old.stream) (W.contents self.new.stream) result piece.now }
+        ensures stream { WriteAppends (W.contents self.old.stream) (W.contents self.new.stream)
+            result piece.now }
     {
         match self.stream.write(piece) {
             Ok(count) if count > 0 => Ok(count),

@@ -1,5 +1,4 @@
-use Rattle.std.proofs.Common.{sym, inr, rules, arith, ap, ◌∙◌}
-use Rattle.cg_io.specs.MemShelf.{told_files}
+use Rattle.std.proofs.Common.{sym, inr, rules, arith}
 use Rattle.cg_io.proofs.FilesInLemmas.{get-files_in-Some, get-files_in-None}
 use Rattle.cg_io.proofs.ShelfLemmas.{Gives-found}
 use Rattle.cg_io.proofs.mem_shelf.MemShelf.answer.Goals as goal
