@@ -1,0 +1,7 @@
+pub mod Dating
+pub mod Event
+pub mod Found
+pub mod Grid
+pub mod Limits
+pub mod Node
+pub mod Stored
