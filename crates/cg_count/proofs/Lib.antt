@@ -1,0 +1,5 @@
+pub mod Ways
+pub mod Chains
+pub mod Totals
+pub mod Held
+mod Built
