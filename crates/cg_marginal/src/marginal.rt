@@ -66,14 +66,16 @@ impl Pairs {
         Pairs { cells }
     }
 
-    fn len(&self) -> usize
+    /// The number of cells.
+    pub fn len(&self) -> usize
         ensures cells { result ≡ length self.now }
         ensures pairs { ArePairs self.now }
     {
         self.cells.len()
     }
 
-    fn pair(&self, cell: usize) -> (u32, u32)
+    /// The lower and the upper end at a cell, in parts per million.
+    pub fn pair(&self, cell: usize) -> (u32, u32)
         requires { cell < length self.now }
         ensures value { slice_get self.now cell ≡ Some result }
         ensures pair { IsPair result }
