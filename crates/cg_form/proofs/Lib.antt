@@ -1,0 +1,10 @@
+pub mod EventLemmas
+pub mod MemberLemmas
+pub mod MembersLemmas
+pub mod ModelLemmas
+pub mod NumberLemmas
+pub mod PieceLemmas
+pub mod ScriptLemmas
+pub mod StepLemmas
+pub mod TreeLemmas
+pub mod YearLemmas

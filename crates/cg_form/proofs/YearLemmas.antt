@@ -1,0 +1,96 @@
+-- Calendar years: each is read as it is written.
+use Rattle.std.proofs.Common.{◌≡◌, ◌≢◌, ℕ, zero, suc, ◌^◌, ◌<◌, inl, inr, true, false, not, ◌&&◌, ◌==◌, List, [], ◌∷◌, ◌++◌, length, codes, decimal, Option, Some, None, ℤ, pos, negsuc, neg_ℤ, ◌≤ℤ◌, int_le, int_eq, refl, sym, ap, ap₂, ◌∙◌, arith, eqb-true}
+use Rattle.std.specs.List.{list_all}
+use Rattle.std.specs.Fmt.{signed_decimal}
+use Rattle.std.specs.Char.{is_ascii_digit}
+use Rattle.std.proofs.lemmas.Int.{ints}
+use Rattle.std.proofs.lemmas.Bool.Decides.{Decides-int_eq}
+use Rattle.std.proofs.lemmas.Fmt.{digits_decimal, decimal_nonempty}
+use Rattle.cg_num.specs.Year.{IsCalendarYear, bp_of_calendar}
+use Rattle.cg_meaning.specs.Tree.{Dating, Exact}
+use Rattle.cg_form.specs.Pieces.{after, number_at}
+use Rattle.cg_form.specs.Reading.{signed_from, signed_at, exact_year}
+use Rattle.cg_form.proofs.StepLemmas.{passes, parts, if-some, and-both, is-either}
+use Rattle.cg_form.proofs.PieceLemmas.{after-is}
+use Rattle.cg_form.proofs.NumberLemmas.{own, number-append, number-is}
+
+-- tests of whole numbers
+le-true : (x y : ℤ) → x ≤ℤ y → int_le x y ≡ true
+le-true x y h = grind (arith, ints)
+
+-- the other way
+true-le : (x y : ℤ) → int_le x y ≡ true → x ≤ℤ y
+true-le x y h = grind (arith, ints)
+
+-- and of their equality
+not-same : (x y : ℤ) → not (int_eq x y) ≡ true → x ≢ y
+not-same x y h e = let yes : int_eq x y ≡ true = (Decides-int_eq x y).1 e in let wrong : not true ≡ true = ap not (sym yes) ∙ h in absurd cc
+
+-- the other way
+eq-false : (x y : ℤ) → x ≢ y → int_eq x y ≡ false
+eq-false x y h = elim (is-either (int_eq x y)) [ inl e ↦ absurd (h ((Decides-int_eq x y).0 e)) | inr e ↦ e ]
+
+-- a minus is no digit
+no-minus : (digits rest : List ℕ) → list_all is_ascii_digit digits ≡ true → 0 < length digits → after (codes "-") (digits ++ rest) ≡ None
+no-minus [] rest h some = absurd (omega arith)
+no-minus (d ∷ ds) rest h some =
+    let first = and-both (is_ascii_digit d) (list_all is_ascii_digit ds) h in
+    elim (is-either (d == 45)) [
+      | inl e ↦ let minus : d ≡ 45 = eqb-true d 45 e in let wrong : is_ascii_digit 45 ≡ true = ap is_ascii_digit (sym minus) ∙ first.0 in absurd cc
+      | inr e ↦ rw e refl
+    ]
+
+-- a year is read as it is written
+pub signed-append : (year : ℤ) (c : ℕ) (rest : List ℕ) → IsCalendarYear year → is_ascii_digit c ≡ false → signed_at (signed_decimal year ++ c ∷ rest) ≡ Some (year, c ∷ rest)
+signed-append (pos n) c rest h e =
+    let small : n < 100000 = omega (arith, ints, h.2) in
+    let wide : n < 2 ^ 64 = omega arith in
+    let plain : after (codes "-") (decimal n ++ c ∷ rest) ≡ None = no-minus (decimal n) (c ∷ rest) (digits_decimal own n wide) (decimal_nonempty n wide) in
+    let number : number_at (decimal n ++ c ∷ rest) ≡ Some (n, c ∷ rest) = number-append n c rest small e in
+    rw (plain, number) refl
+signed-append (negsuc n) c rest h e =
+    let small : suc n < 100000 = omega (arith, ints, h.1) in
+    let number : number_at (decimal (suc n) ++ c ∷ rest) ≡ Some (suc n, c ∷ rest) = number-append (suc n) c rest small e in
+    rw number refl
+
+-- a minus and digits are written so
+minus : (n : ℕ) → (neg_ℤ (pos n) ≢ pos 0) → signed_decimal (neg_ℤ (pos n)) ≡ 45 ∷ decimal n
+minus zero h = absurd (h refl)
+minus (suc n) h = refl
+
+-- what was read is a whole number
+pub signed-is : (bytes : List ℕ) (year : ℤ) (rest : List ℕ) → signed_at bytes ≡ Some (year, rest) → year ≢ pos 0 → bytes ≡ signed_decimal year ++ rest
+signed-is bytes year rest h some = go (after (codes "-") bytes) refl h
+  where
+    go : (o : Option (List ℕ)) → after (codes "-") bytes ≡ o → signed_from o bytes ≡ Some (year, rest) → bytes ≡ signed_decimal year ++ rest
+    go None e h = passes _ (number_at bytes) _ (year, rest) h (λ (n, behind) read h1.
+        let pair = parts (pos n) year behind rest h1 in
+        let is_year : pos n ≡ year = pair.0 in
+        let is_rest : behind ≡ rest = pair.1 in
+        let written : bytes ≡ signed_decimal (pos n) ++ behind = (number-is bytes n behind read).0 in
+        written ∙ ap₂ (λ (y : ℤ) (r : List ℕ). signed_decimal y ++ r) is_year is_rest)
+    go (Some behind) e h = passes _ (number_at behind) _ (year, rest) h (λ (n, others) read h1.
+        let pair = parts (neg_ℤ (pos n)) year others rest h1 in
+        let is_year : neg_ℤ (pos n) ≡ year = pair.0 in
+        let is_rest : others ≡ rest = pair.1 in
+        let written : behind ≡ decimal n ++ others = (number-is behind n others read).0 in
+        let begins : bytes ≡ 45 ∷ behind = after-is (codes "-") bytes behind e in
+        let signed : signed_decimal (neg_ℤ (pos n)) ≡ 45 ∷ decimal n = minus n (λ z. some (sym is_year ∙ z)) in
+        let so_far : bytes ≡ signed_decimal (neg_ℤ (pos n)) ++ others = begins ∙ ap (λ t. 45 ∷ t) written ∙ ap (λ t. t ++ others) (sym signed) in
+        so_far ∙ ap₂ (λ (y : ℤ) (r : List ℕ). signed_decimal y ++ r) is_year is_rest)
+
+-- the years that an exact date may have
+pub exact-append : (year : ℤ) → IsCalendarYear year → exact_year year ≡ Some (Exact (bp_of_calendar year))
+exact-append year h =
+    let some : int_eq year (pos 0) ≡ false = eq-false year (pos 0) h.0 in
+    let low : int_le (negsuc 58050) year ≡ true = le-true _ _ h.1 in
+    let high : int_le year (pos 2950) ≡ true = le-true _ _ h.2 in
+    rw (some, low, high) refl
+
+-- and no others
+pub exact-is : (year : ℤ) (dating : Dating) → exact_year year ≡ Some dating → IsCalendarYear year × (dating ≡ Exact (bp_of_calendar year))
+exact-is year dating h =
+    let tested = if-some (not (int_eq year (pos 0)) && int_le (negsuc 58050) year && int_le year (pos 2950)) (Exact (bp_of_calendar year)) dating h in
+    let bounds = and-both (not (int_eq year (pos 0)) && int_le (negsuc 58050) year) (int_le year (pos 2950)) tested.0 in
+    let starts = and-both (not (int_eq year (pos 0))) (int_le (negsuc 58050) year) bounds.0 in
+    (((λ z. not-same year (pos 0) starts.0 z), true-le _ _ starts.1, true-le _ _ bounds.1), sym tested.1)

@@ -1,0 +1,49 @@
+-- How the pieces of a file are cut off its front: each with what comes after it, or none.
+use Rattle.std.specs.Prelude.{bytes_eq, ℕ, ◌+◌, ◌-◌, ◌*◌, Bool, not, ◌==◌, ◌&&◌, ◌||◌, List, [], ◌∷◌, length, take, drop, codes, Option, Some, None, nat_le, if◌then◌else◌, fold, slice_index}
+use Rattle.std.specs.List.{prefix_len}
+use Rattle.std.specs.Char.{is_ascii_digit, is_ascii_alphanumeric}
+use Rattle.cg_meaning.specs.Tree.{Name}
+
+-- one piece after another, until one is missing
+infixl 10 ◌>>=◌
+abbrev pub ◌>>=◌ : {A B : Type 0} → Option A → (A → Option B) → Option B
+None >>= f = None
+(Some x) >>= f = f x
+
+-- what comes after this word
+abbrev pub after : List ℕ → List ℕ → Option (List ℕ)
+after [] bytes = Some bytes
+after (c ∷ word) [] = None
+after (c ∷ word) (b ∷ bytes) = if b == c then after word bytes else None
+
+-- 1 to 20 letters or digits, with no other behind them
+abbrev pub letters_at : List ℕ → Option (List ℕ × List ℕ)
+letters_at bytes =
+    let len = prefix_len is_ascii_alphanumeric bytes in
+    if nat_le 1 len && nat_le len 20 then Some (take len bytes, drop len bytes) else None
+
+-- the same between two quotes
+abbrev pub text_at : List ℕ → Option (Name × List ℕ)
+text_at bytes =
+    after (codes "\"") bytes >>= λ from. letters_at from >>= λ text.
+    after (codes "\"") text.1 >>= λ rest. Some (text.0, rest)
+
+-- the number that digits write
+abbrev pub number_of : List ℕ → ℕ
+number_of digits = fold (λ n c. n * 10 + (c - 48)) 0 digits
+
+-- 1 to 5 digits, and no zero before another digit
+abbrev pub is_plain : List ℕ → Bool
+is_plain digits = nat_le 1 (length digits) && nat_le (length digits) 5 && (length digits == 1 || not (slice_index digits 0 == 48))
+
+-- a number written so, with no other digit behind it
+abbrev pub number_at : List ℕ → Option (ℕ × List ℕ)
+number_at bytes =
+    let len = prefix_len is_ascii_digit bytes in
+    if is_plain (take len bytes) then Some (number_of (take len bytes), drop len bytes) else None
+
+-- what stands before this word at the end
+abbrev pub before : List ℕ → List ℕ → Option (List ℕ)
+before word bytes =
+    let front = length bytes - length word in
+    if bytes_eq (drop front bytes) word then Some (take front bytes) else None

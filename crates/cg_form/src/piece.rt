@@ -1,0 +1,92 @@
+ghost use Rattle.std.specs.Prelude.{◌<◌, ◌*◌, ◌^◌, ◌≡◌, ◌≤◌, length, IsTrue, ◌↔◌, Some, None, option_map, drop};
+ghost use Rattle.std.specs.List.{prefix_len};
+ghost use Rattle.std.specs.Char.{is_ascii_digit, is_ascii_alphanumeric};
+ghost use Rattle.cg_form.specs.Pieces.{after, before, letters_at, text_at, number_of, is_plain, number_at};
+
+/// What comes after the word, where the bytes begin with it.
+pub fn after<'a>(bytes: &'a [u8], word: &[u8]) -> Option<&'a [u8]>
+    ensures { option_map (λ rest. rest.now) result ≡ after word.now bytes.now }
+{
+    bytes.strip_prefix(word)
+}
+
+/// What comes before the word, where the bytes end with it.
+pub fn before<'a>(bytes: &'a [u8], word: &[u8]) -> Option<&'a [u8]>
+    ensures { option_map (λ front. front.now) result ≡ before word.now bytes.now }
+{
+    bytes.strip_suffix(word)
+}
+
+fn letters_len(bytes: &[u8]) -> usize
+    ensures value { result ≡ prefix_len is_ascii_alphanumeric bytes.now }
+    ensures within { result ≤ length bytes.now }
+{
+    bytes
+        .iter()
+        .take_while(|c| c.is_ascii_alphanumeric())
+        .count()
+}
+
+fn digits_len(bytes: &[u8]) -> usize
+    ensures value { result ≡ prefix_len is_ascii_digit bytes.now }
+    ensures within { result ≤ length bytes.now }
+{
+    bytes.iter().take_while(|c| c.is_ascii_digit()).count()
+}
+
+fn letters_at(bytes: &[u8]) -> Option<(&str, &[u8])>
+    ensures { option_map (λ text. (text.0.now, text.1.now)) result ≡ letters_at bytes.now }
+{
+    let len = letters_len(bytes);
+    if len < 1 || len > 20 {
+        return None;
+    }
+    let (letters, rest) = bytes.split_at(len);
+    match str::from_utf8(letters) {
+        Ok(text) => Some((text, rest)),
+        Err(_) => None,
+    }
+}
+
+/// A text of 1 to 20 letters or digits between its quotes, and what comes after it.
+pub fn text_at(bytes: &[u8]) -> Option<(&str, &[u8])>
+    ensures { option_map (λ text. (text.0.now, text.1.now)) result ≡ text_at bytes.now }
+{
+    let (text, rest) = letters_at(after(bytes, b"\"")?)?;
+    Some((text, after(rest, b"\"")?))
+}
+
+/// The number that digits write.
+fn number_of(digits: &[u8]) -> u32
+    requires { length digits.now ≤ 5 }
+    ensures value { result ≡ number_of digits.now }
+    ensures bound { result < 23 * 10 ^ 5 }
+{
+    let mut number = 0;
+    for digit in digits {
+        number = number * 10 + u32::from(digit.saturating_sub(b'0'));
+    }
+    number
+}
+
+fn is_plain(digits: &[u8]) -> bool
+    ensures { result ≡ is_plain digits.now }
+{
+    match digits {
+        [] => false,
+        [_] => true,
+        [first, ..] => digits.len() <= 5 && *first != b'0',
+    }
+}
+
+/// A whole number of 1 to 5 digits, and what comes after it.
+pub fn number_at(bytes: &[u8]) -> Option<(u32, &[u8])>
+    ensures { option_map (λ number. (number.0, number.1.now)) result ≡ number_at bytes.now }
+{
+    let (digits, rest) = bytes.split_at(digits_len(bytes));
+    if is_plain(digits) {
+        Some((number_of(digits), rest))
+    } else {
+        None
+    }
+}

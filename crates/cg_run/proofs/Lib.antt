@@ -1,0 +1,6 @@
+pub mod CauseLemmas
+mod FilesLemmas
+mod OutcomeLemmas
+mod RunLemmas
+mod TranscriptLemmas
+mod WordsLemmas

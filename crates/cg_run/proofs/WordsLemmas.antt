@@ -1,0 +1,71 @@
+-- A NAME=FILE is cut at its first `=`.
+use Rattle.std.proofs.Common.{◌≡◌, ◌≢◌, ◌↔◌, ℕ, ◌+◌, ◌<◌, ◌≤◌, Bool, true, false, List, [], ◌∷◌, ◌++◌, length, map, take, drop, get_or, subst, suc, refl, sym, ap, ◌∙◌, arith, IsTrue, ◌==◌, length-append, append_assoc, Option, Some, None, Bor, lit<, inl, inr}
+use Rattle.std.proofs.lemmas.Bool.{ne_eqb}
+use Rattle.std.proofs.lemmas.List.{get_or_append_left, drop_at}
+use Rattle.std.proofs.Math.Seq.{get_or-append_seam, take-append_seam}
+use Rattle.std.proofs.lemmas.List.Sums.{position_or_len_is}
+use Rattle.std.proofs.lemmas.Str.Pattern.{IsSplitOnceResult, split_once_first}
+use Rattle.std.specs.List.{position_or_len, before_first, after_first, All, join_with_byte}
+use Rattle.cg_run.specs.Words.{NamedFile, Request, AreLists, is_name_byte, IsName, IsFile, IsNamedFile, text_of}
+
+-- a test that answers no
+pub refuted : {b : Bool} {P : Type 0} → (IsTrue b ↔ P) → b ≡ false → P → ⊥
+refuted i e p = let t = i.1 p in cc
+
+mark_is_no_name : (byte : ℕ) → IsTrue (is_name_byte byte) → byte ≡ 61 → ⊥
+mark_is_no_name byte h e = let f : IsTrue (is_name_byte 61) = subst (λ b. IsTrue (is_name_byte b)) e h in cc
+
+-- the mark stands behind the name
+pub at_mark : (name file : List ℕ) → IsName name → position_or_len (λ b. b == 61) (name ++ (61 ∷ file)) ≡ length name
+at_mark name file h =
+    position_or_len_is (λ b. b == 61) (name ++ (61 ∷ file)) (length name) 0
+    (rw length-append (omega arith))
+    (λ k l. ap (λ b. b == 61) (get_or_append_left name (61 ∷ file) 0 k l) ∙ ne_eqb (get_or name k 0) 61 (mark_is_no_name _ (h.bytes k 0 l)))
+    (λ l. ap (λ b. b == 61) (get_or-append_seam name 61 file 0))
+
+pub behind : (name file : List ℕ) → drop (length name + 1) (name ++ (61 ∷ file)) ≡ file
+behind [] file = refl
+behind (b ∷ name) file =
+    let next : length (b ∷ name) + 1 ≡ suc (length name + 1) = omega arith in
+    ap (λ n. drop n (b ∷ (name ++ (61 ∷ file)))) next ∙ behind name file
+
+-- a text in two parts around the first mark
+pub record AreParts (named : NamedFile) (first second : List ℕ) : Type 0 where
+  pub name : first ≡ named.name
+  pub file : second ≡ named.file
+
+pub found : (text : List ℕ) (r : Option (Bor (List ℕ) × Bor (List ℕ))) → IsSplitOnceResult 61 text r → (parts : Bor (List ℕ) × Bor (List ℕ)) → r ≡ Some parts →
+    (named : NamedFile) → IsNamedFile named → text ≡ text_of named → AreParts named parts.0.now parts.1.now
+found text r split parts is named h e =
+    let (inside, front, back) = rw is at (split_once_first 61 text r split (lit< tt)) in
+    record {
+      name = front ∙ ap (λ t. before_first (λ b. b == 61) t) e ∙ ap (λ n. take n (text_of named)) (at_mark named.name named.file h.name) ∙ take-append_seam named.name (61 ∷ named.file);
+      file = back ∙ ap (λ t. after_first (λ b. b == 61) t) e ∙ ap (λ n. drop (n + 1) (text_of named)) (at_mark named.name named.file h.name) ∙ behind named.name named.file;
+    }
+
+pub not_found : (text : List ℕ) (r : Option (Bor (List ℕ) × Bor (List ℕ))) → IsSplitOnceResult 61 text r → r ≡ None →
+    (named : NamedFile) → IsNamedFile named → text ≡ text_of named → ⊥
+not_found text r split is named h e =
+    let none = rw is at (split_once_first 61 text r split (lit< tt)) in
+    let place : length named.name ≡ length (text_of named) = sym (at_mark named.name named.file h.name) ∙ ap (λ t. position_or_len (λ b. b == 61) t) (sym e) ∙ none ∙ ap length e in
+    absurd (omega (arith, place, length-append named.name (61 ∷ named.file)))
+
+-- one model is the whole list of models
+pub the_model : (models sessions : List ℕ) (request : Request) → AreLists models sessions request →
+    (named : NamedFile) × IsNamedFile named × (models ≡ text_of named)
+the_model models sessions request lists = only request.models lists.one_model lists.model_files lists.model_list
+  where
+    only : (all : List NamedFile) → length all ≡ 1 → All IsNamedFile all → models ≡ join_with_byte 44 (map text_of all) →
+        (named : NamedFile) × IsNamedFile named × (models ≡ text_of named)
+    only [] one are e = absurd (omega (arith, one))
+    only (named ∷ []) one are e = (named, are 0 named (omega arith), e)
+    only (named ∷ other ∷ others) one are e = absurd (omega (arith, one))
+
+-- and one session that of the sessions
+pub the_session : (models sessions : List ℕ) (request : Request) → AreLists models sessions request → IsFile sessions
+the_session models sessions request lists = only request.sessions lists.one_session lists.session_files lists.session_list
+  where
+    only : (all : List (List ℕ)) → length all ≡ 1 → All IsFile all → sessions ≡ join_with_byte 44 all → IsFile sessions
+    only [] one are e = absurd (omega (arith, one))
+    only (file ∷ []) one are e = subst IsFile (sym e) (are 0 file (omega arith))
+    only (file ∷ other ∷ others) one are e = absurd (omega (arith, one))
