@@ -1,0 +1,3 @@
+pub mod Listing
+pub mod Member
+pub mod Step
