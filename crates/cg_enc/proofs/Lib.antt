@@ -1,0 +1,14 @@
+pub mod Divisions
+pub mod Powers
+pub mod Searches
+pub mod Norming
+pub mod Scales
+pub mod Widening
+pub mod WholeNumbers
+pub mod Settling
+pub mod Products
+pub mod Sums
+pub mod Quotients
+pub mod Margins
+pub mod Roots
+pub mod Shares

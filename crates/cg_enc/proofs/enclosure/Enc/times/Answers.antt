@@ -1,0 +1,14 @@
+use Rattle.cg_enc.proofs.Products.{times-IsProduct}
+use Rattle.cg_enc.proofs.enclosure.Enc.times.Goals as goal
+
+pub returns-clause-encloses : goal.returns-clause-encloses
+returns-clause-encloses c = rw c.product.ensures.value (times-IsProduct _ _ c.product.ensures.valid.0 c.product.ensures.valid.1).encloses
+
+pub returns-clause-loss : goal.returns-clause-loss
+returns-clause-loss c = rw c.product.ensures.value (times-IsProduct _ _ c.product.ensures.valid.0 c.product.ensures.valid.1).loss
+
+pub returns-clause-zero : goal.returns-clause-zero
+returns-clause-zero c = rw c.product.ensures.value (times-IsProduct _ _ c.product.ensures.valid.0 c.product.ensures.valid.1).zero
+
+pub returns-clause-exponent : goal.returns-clause-exponent
+returns-clause-exponent c = rw c.product.ensures.value (times-IsProduct _ _ c.product.ensures.valid.0 c.product.ensures.valid.1).exponent
