@@ -1,0 +1,10 @@
+pub mod LineLemmas
+pub mod FieldLemmas
+pub mod RowLemmas
+pub mod FileLemmas
+pub mod CurveLemmas
+pub mod PointLemmas
+pub mod PlaceLemmas
+pub mod CoverLemmas
+pub mod DecidedLemmas
+pub mod WorkedCases
