@@ -1,0 +1,7 @@
+pub mod LossLemmas
+pub mod ReachLemmas
+pub mod SumLemmas
+pub mod PlaceLemmas
+pub mod WithinLemmas
+pub mod TableLemmas
+pub mod FormulaLemmas

@@ -1,0 +1,8 @@
+use Rattle.std.proofs.Common.{◌∙◌, arith}
+use Rattle.cg_table.specs.Formulas.{after_entry}
+use Rattle.cg_table.specs.Table.{entry}
+use Rattle.cg_table.proofs.PlaceLemmas.{row_more}
+use Rattle.cg_table.proofs.groups.push_after.Goals as goal
+
+pub loop-b-preserved : goal.loop-b-preserved
+loop-b-preserved c = c.in_ok-push.ensures.items ∙ row_more c.args.entries.now.items c.loop-b.entries.items (after_entry (entry c.args.t.now) c.args.a) c.after_at.result c.args.a c.loop-b.b (omega arith) c.after_at.ensures c.loop-b.invariant

@@ -1,0 +1,13 @@
+use Rattle.std.proofs.Common.{◌≡◌}
+use Rattle.cg_table.specs.Losses.{greatest_reach}
+use Rattle.cg_table.proofs.ReachLemmas.{greatest_reach-IsExponent, greatest_reach-least}
+use Rattle.cg_table.proofs.row.Row.reach.Goals as goal
+
+kept : (c : goal.After-self) → c.self.inside.reach ≡ greatest_reach c.args.self.now
+kept c = cc
+
+pub returns-clause-each : goal.returns-clause-each
+returns-clause-each c = rw (kept c) (greatest_reach-IsExponent c.args.self.now)
+
+pub returns-clause-least : goal.returns-clause-least
+returns-clause-least c = rw (kept c) (greatest_reach-least c.args.self.now)

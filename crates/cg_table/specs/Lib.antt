@@ -1,0 +1,6 @@
+pub mod Sums
+pub mod Losses
+pub mod Row
+pub mod Table
+pub mod Formulas
+pub mod Exact

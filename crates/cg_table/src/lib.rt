@@ -1,0 +1,23 @@
+//! Rows of enclosures, one for each cell of a grid, and triangular tables, one for each two cells.
+#![tactic(auto)]
+
+mod groups;
+mod limits;
+mod order;
+mod row;
+mod side;
+mod single;
+mod span;
+mod steps;
+#[cfg(test)]
+mod tests;
+mod tri;
+
+pub use groups::{after_group, before_group};
+pub use order::{then, then_row};
+pub use row::Row;
+pub use side::beside;
+pub use single::{identity, of_row, total};
+pub use span::spanned;
+pub use steps::Steps;
+pub use tri::Tri;
