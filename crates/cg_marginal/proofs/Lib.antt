@@ -1,1 +1,3 @@
-pub mod PairLemmas
+pub mod WidthLemmas
+pub mod WholeLemmas
+pub mod FinishedLemmas

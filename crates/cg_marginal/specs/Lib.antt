@@ -1,3 +1,3 @@
-pub mod Counts
+pub mod Finished
 pub mod Marginal
 pub mod Pairs

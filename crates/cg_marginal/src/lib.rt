@@ -1,10 +1,10 @@
 //! The posterior of an event, as bounds in whole parts per million at each cell of a grid.
 #![tactic(auto)]
 
-mod counts;
 mod marginal;
+mod parts;
 #[cfg(test)]
 mod tests;
 
-pub use counts::finish_counts;
 pub use marginal::{Marginal, Pairs};
+pub use parts::finish;
