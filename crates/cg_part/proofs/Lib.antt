@@ -1,0 +1,15 @@
+pub mod Ranges
+pub mod Cumulated
+pub mod Factorials
+pub mod Blocks
+pub mod Parts
+pub mod Ordered
+pub mod Beside
+pub mod Groups
+pub mod Open
+pub mod Splits
+pub mod Members
+pub mod Steps
+pub mod Table
+pub mod Totals
+pub mod WorkedCases

@@ -1,0 +1,126 @@
+-- Open events carry the weight of the pair from further out.
+use Rattle.std.proofs.Common.{◌≡◌, ℕ, suc, ◌+◌, ◌*◌, ◌^◌, Bool, true, false, ◌&&◌, List, [], ◌∷◌, ◌++◌, length, take, drop, refl, sym, ap, ap₂, ◌∙◌, arith, Option, Some, None, length-take-le, length-drop}
+use Rattle.std.specs.Prelude.{if◌then◌else◌}
+use Rattle.std.proofs.Math.Nat.{mul_assoc, mul-mul-mul_comm, pow-zero, pow-suc}
+use Rattle.std.proofs.lemmas.Nat.{pow-add}
+use Rattle.cg_meaning.specs.Tree.{Tree, Leaf, Boundary, Group, Trees, none, more, Sequence, Phase, After, Before, count, count_all}
+use Rattle.cg_meaning.specs.Sums.{product_by}
+use Rattle.cg_meaning.specs.Pairs.{first, boundary_after, pair_of, pairs_at, pairs_at_all, pairs_in_sequence, span_weight}
+use Rattle.cg_part.specs.Spans.{has_boundary, open_events, open_in_all, open_in_sequence}
+
+-- one factor
+pub pow-one : (f : ℕ) → f ^ 1 ≡ f
+pow-one f = rw pow-suc (rw pow-zero (omega arith))
+
+-- the product of the spans' weights
+abbrev pub spans : ℕ → List (Option (ℕ × ℕ)) → ℕ
+spans g pairs = product_by (λ pair. span_weight g pair) pairs
+
+-- of two lists
+pub spans-append : (g : ℕ) (xs ys : List (Option (ℕ × ℕ))) → spans g (xs ++ ys) ≡ spans g xs * spans g ys
+spans-append g [] ys = omega arith
+spans-append g (x ∷ xs) ys = ap (λ a. span_weight g x * a) (spans-append g xs ys) ∙ sym (mul_assoc (span_weight g x) (spans g xs) (spans g ys))
+
+-- two parts, each with its power
+joined : (f a b c d m n : ℕ) → a ≡ c * f ^ m → b ≡ d * f ^ n → a * b ≡ (c * d) * f ^ (m + n)
+joined f a b c d m n p q =
+    ap₂ (λ x y. x * y) p q ∙ mul-mul-mul_comm c (f ^ m) d (f ^ n) ∙ ap (λ x. (c * d) * x) (sym (pow-add f m n))
+
+-- without a factor
+no_factor : (f c : ℕ) → c ≡ c * f ^ 0
+no_factor f c = omega (arith, ap (λ x. c * x) (pow-zero f))
+
+-- with one
+one_factor : (f : ℕ) → f ≡ 1 * f ^ 1
+one_factor f = omega (arith, pow-one f)
+
+-- whether there is a cell
+abbrev is_there : Option ℕ → Bool
+is_there None = false
+is_there (Some c) = true
+
+-- a Boundary among the members has a cell
+boundary-there : (ts : Trees) (cells : List ℕ) → length cells ≡ count_all ts → is_there (boundary_after ts cells) ≡ has_boundary ts
+boundary-there none cells l = refl
+boundary-there (more (Boundary name) ts) [] l = absurd (omega arith)
+boundary-there (more (Boundary name) ts) (c ∷ cs) l = refl
+boundary-there (more (Leaf name d) ts) cells l = boundary-there ts (drop 1 cells) (omega (arith, length-drop 1 cells))
+boundary-there (more (Group kind name us) ts) cells l =
+    boundary-there ts (drop (count (Group kind name us)) cells) (omega (arith, length-drop (count (Group kind name us)) cells))
+
+-- the first of some cells
+first-there : (cells : List ℕ) (n : ℕ) → length cells ≡ suc n → is_there (first cells) ≡ true
+first-there [] n l = absurd (omega arith)
+first-there (c ∷ cs) n l = refl
+
+-- a member of a Sequence between two Boundaries has their pair, and else that from further out
+chosen : (g : ℕ) (outer : Option (ℕ × ℕ)) (before next : Option ℕ) (t : Tree) (cells : List ℕ) →
+    spans g (pairs_at outer t cells) ≡ spans g (pairs_at None t cells) * span_weight g outer ^ open_events t →
+    spans g (pairs_at (pair_of before next outer) t cells)
+    ≡ spans g (pairs_at (pair_of before next None) t cells) * span_weight g outer ^ (if (is_there before && is_there next) then 0 else open_events t)
+chosen g outer None next t cells h = h
+chosen g outer (Some a) None t cells h = h
+chosen g outer (Some a) (Some b) t cells h = no_factor (span_weight g outer) (spans g (pairs_at (Some (a, b)) t cells))
+
+-- a member and later members of a Sequence
+open_step : (g : ℕ) (outer : Option (ℕ × ℕ)) (before : Option ℕ) (behind : Bool) (t : Tree) (ts : Trees) (xs ys : List ℕ) (rest rest_own : List (Option (ℕ × ℕ))) →
+    is_there before ≡ behind → length ys ≡ count_all ts →
+    spans g (pairs_at outer t xs) ≡ spans g (pairs_at None t xs) * span_weight g outer ^ open_events t →
+    spans g rest ≡ spans g rest_own * span_weight g outer ^ open_in_sequence behind ts →
+    spans g (pairs_at (pair_of before (boundary_after ts ys) outer) t xs ++ rest)
+    ≡ spans g (pairs_at (pair_of before (boundary_after ts ys) None) t xs ++ rest_own)
+    * span_weight g outer ^ ((if (behind && has_boundary ts) then 0 else open_events t) + open_in_sequence behind ts)
+open_step g outer before behind t ts xs ys rest rest_own b l one others =
+    let next = boundary_after ts ys in
+    let n = if (behind && has_boundary ts) then 0 else open_events t in
+    spans-append g (pairs_at (pair_of before next outer) t xs) rest
+    ∙ joined (span_weight g outer) _ _ (spans g (pairs_at (pair_of before next None) t xs)) (spans g rest_own) n (open_in_sequence behind ts)
+    (rw (← b, ← boundary-there ts ys l) (chosen g outer before next t xs one)) others
+    ∙ ap (λ x. x * span_weight g outer ^ (n + open_in_sequence behind ts)) (sym (spans-append g (pairs_at (pair_of before next None) t xs) rest_own))
+
+mutual
+  -- Under a pair from further out a node has its own spans' weights, times that of the pair for each open event.
+  pub spans-open : (g : ℕ) (outer : Option (ℕ × ℕ)) (t : Tree) (cells : List ℕ) → length cells ≡ count t →
+      spans g (pairs_at outer t cells) ≡ spans g (pairs_at None t cells) * span_weight g outer ^ open_events t
+  spans-open g outer (Leaf name d) cells l = omega (arith, one_factor (span_weight g outer))
+  spans-open g outer (Boundary name) cells l = omega (arith, one_factor (span_weight g outer))
+  spans-open g outer (Group Sequence name ts) cells l = spans-open_sequence g outer None false ts cells refl l
+  spans-open g outer (Group Phase name ts) cells l = spans-open_all g outer ts cells l
+  spans-open g outer (Group After name ts) cells l = no_factor (span_weight g outer) (spans g (pairs_at_all None ts cells))
+  spans-open g outer (Group Before name ts) cells l = no_factor (span_weight g outer) (spans g (pairs_at_all None ts cells))
+
+  spans-open_all : (g : ℕ) (outer : Option (ℕ × ℕ)) (ts : Trees) (cells : List ℕ) → length cells ≡ count_all ts →
+      spans g (pairs_at_all outer ts cells) ≡ spans g (pairs_at_all None ts cells) * span_weight g outer ^ open_in_all ts
+  spans-open_all g outer none cells l = no_factor (span_weight g outer) 1
+  spans-open_all g outer (more t ts) cells l =
+      let xs = take (count t) cells in
+      let ys = drop (count t) cells in
+      let m : length xs ≡ count t = length-take-le (count t) cells (omega arith) in
+      let n : length ys ≡ count_all ts = omega (arith, length-drop (count t) cells) in
+      spans-append g (pairs_at outer t xs) (pairs_at_all outer ts ys)
+      ∙ joined (span_weight g outer) _ _ (spans g (pairs_at None t xs)) (spans g (pairs_at_all None ts ys)) (open_events t) (open_in_all ts)
+      (spans-open g outer t xs m) (spans-open_all g outer ts ys n)
+      ∙ ap (λ x. x * span_weight g outer ^ (open_events t + open_in_all ts)) (sym (spans-append g (pairs_at None t xs) (pairs_at_all None ts ys)))
+
+  spans-open_sequence : (g : ℕ) (outer : Option (ℕ × ℕ)) (before : Option ℕ) (behind : Bool) (ts : Trees) (cells : List ℕ) →
+      is_there before ≡ behind → length cells ≡ count_all ts →
+      spans g (pairs_in_sequence outer before ts cells) ≡ spans g (pairs_in_sequence None before ts cells) * span_weight g outer ^ open_in_sequence behind ts
+  spans-open_sequence g outer before behind none cells b l = no_factor (span_weight g outer) 1
+  spans-open_sequence g outer before behind (more (Boundary name) ts) cells b l =
+      let ys = drop 1 cells in
+      let n : length ys ≡ count_all ts = omega (arith, length-drop 1 cells) in
+      joined (span_weight g outer) _ _ 1 (spans g (pairs_in_sequence None (first cells) ts ys)) 1 (open_in_sequence true ts)
+      (one_factor (span_weight g outer)) (spans-open_sequence g outer (first cells) true ts ys (first-there cells (count_all ts) (omega arith)) n)
+  spans-open_sequence g outer before behind (more (Leaf name d) ts) cells b l =
+      let ys = drop 1 cells in
+      let n : length ys ≡ count_all ts = omega (arith, length-drop 1 cells) in
+      open_step g outer before behind (Leaf name d) ts (take 1 cells) ys (pairs_in_sequence outer before ts ys)
+      (pairs_in_sequence None before ts ys) b n
+      (omega (arith, one_factor (span_weight g outer))) (spans-open_sequence g outer before behind ts ys b n)
+  spans-open_sequence g outer before behind (more (Group kind name us) ts) cells b l =
+      let xs = take (count_all us) cells in
+      let ys = drop (count_all us) cells in
+      let m : length xs ≡ count_all us = length-take-le (count_all us) cells (omega arith) in
+      let n : length ys ≡ count_all ts = omega (arith, length-drop (count_all us) cells) in
+      open_step g outer before behind (Group kind name us) ts xs ys (pairs_in_sequence outer before ts ys) (pairs_in_sequence None before ts ys) b n
+      (spans-open g outer (Group kind name us) xs m) (spans-open_sequence g outer before behind ts ys b n)

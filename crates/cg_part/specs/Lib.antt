@@ -1,0 +1,4 @@
+pub mod Spans
+pub mod Part
+pub mod Tables
+pub mod Laws
