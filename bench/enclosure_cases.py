@@ -21,7 +21,7 @@ def norm(lo, hi, e):
         return lo << s, hi << s, e - s
     if hi < TOP:
         return lo, hi, e
-    s = next(s for s in range(hi.bit_length() + 1) if up(hi, 2**s) < TOP)
+    s = next(s for s in range(hi.bit_length() - 63, hi.bit_length() + 1) if up(hi, 2**s) < TOP)
     return lo // 2**s, up(hi, 2**s), e + s
 
 

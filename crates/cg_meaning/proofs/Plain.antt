@@ -7,7 +7,7 @@ use Rattle.cg_meaning.specs.Tree.{Tree, Trees, Leaf, Boundary, Group, none, more
 use Rattle.cg_meaning.specs.Scene.{Scene}
 use Rattle.cg_meaning.specs.Sums.{product_from, product_by}
 use Rattle.cg_meaning.specs.Pairs.{pairs_at, span_weight}
-use Rattle.cg_meaning.specs.Weights.{Weighting, IsAdmitted, AreAdmitted}
+use Rattle.cg_meaning.specs.Weights.{Weighting, ones, IsAdmitted, AreAdmitted}
 use Rattle.cg_meaning.specs.Posterior.{allows, weight_of, total, total_at}
 use Rattle.cg_meaning.specs.Sequence.{IsPlain}
 use Rattle.cg_meaning.proofs.Sums.{sum_over-same, AreCells}
@@ -40,7 +40,7 @@ plain_admitted scene (Normal year error) plain = absurd plain
 plain_admitted scene (Carbon age error) plain = absurd plain
 
 -- the weight 1 everywhere is admitted
-pub ones_admitted : (tree : Tree) (scene : Scene) → All IsPlain (datings_of tree) → AreAdmitted tree scene (λ event cell. 1)
+pub ones_admitted : (tree : Tree) (scene : Scene) → All IsPlain (datings_of tree) → AreAdmitted tree scene ones
 ones_admitted tree scene plain event d here =
     let inside : event < length (datings_of tree) = slice_get_within (datings_of tree) event d here in
     plain_admitted scene d (subst IsPlain (get_or_from_slice_get (datings_of tree) event d d here) (plain event d inside))

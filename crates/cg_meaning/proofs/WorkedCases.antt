@@ -3,14 +3,10 @@ use Rattle.std.proofs.Common.{◌≡◌, ℕ, refl, List, [], ◌∷◌, map, po
 use Rattle.std.specs.List.{range_with_len}
 use Rattle.cg_meaning.specs.Tree.{Tree, Leaf, Boundary, Group, Trees, none, more, Kind, Sequence, Phase, After, Before, Free, Exact, Normal, Carbon}
 use Rattle.cg_meaning.specs.Scene.{Scene, scene_on}
-use Rattle.cg_meaning.specs.Weights.{Weighting, distance_of}
+use Rattle.cg_meaning.specs.Weights.{ones, distance_of}
 use Rattle.cg_meaning.specs.Posterior.{total, total_at}
 use Rattle.cg_meaning.specs.Curve.{Curve, point_at}
 use Rattle.cg_meaning.specs.Taylor.{series, denominator, bound_top, bound_bottom}
-
--- each event has the weight 1 at each cell
-abbrev ones : Weighting
-ones event cell = 1
 
 -- the sum for each cell, the oldest first
 abbrev sums : Tree → Scene → ℕ → List ℕ

@@ -15,10 +15,10 @@ IsPlain (Exact year) = Unit {0}
 IsPlain (Normal year error) = ⊥
 IsPlain (Carbon age error) = ⊥
 
--- Its only statement is a Sequence of at most twelve leaves, all of them plain.
+-- Its only statement is a Sequence of at most a hundred leaves, all of them plain.
 pub record IsPlainSequence (chronology : Chronology) : Type 0 where
   pub name : Name
   pub members : List (Name × Dating)
   pub top : chronology.top ≡ more (Group Sequence name (leaves members)) none
-  pub few : length members ≤ 12
+  pub few : length members ≤ 100
   pub plain : All (λ member. IsPlain member.1) members

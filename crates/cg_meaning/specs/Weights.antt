@@ -65,6 +65,10 @@ IsAdmitted scene (Carbon age error) weights = AreWeights scene (Carbon age error
 abbrev pub Weighting : Type 0
 Weighting = ℕ → ℕ → ℕ
 
+-- each event has the weight 1 at each cell
+abbrev pub ones : Weighting
+ones event cell = 1
+
 -- the weights of each event of the tree are admitted
 abbrev pub AreAdmitted : Tree → Scene → Weighting → Type 0
 AreAdmitted tree scene weighting =

@@ -1,10 +1,10 @@
 -- What a read tells of the reads of a run.
-use Rattle.std.proofs.Common.{◌≡◌, ℕ, ◌+◌, ◌<◌, ◌≤◌, List, length, Option, Some, None, Ok, replicate, sym, ap, ◌∙◌, subst, arith, refl, option_map}
+use Rattle.std.proofs.Common.{◌≡◌, ℕ, ◌+◌, ◌<◌, List, length, Option, Some, None, Ok, replicate, subst, arith, option_map}
 use Rattle.std.proofs.lemmas.List.{length-replicate}
-use Rattle.cg_io.specs.Shelf.{Files, Gives, Fails, TellsRead, after_read}
+use Rattle.cg_io.specs.Shelf.{Files, TellsRead, after_read}
 use Rattle.cg_io.specs.declared.shelf.ReadEnd.TheVariants.{Whole, TooLong}
 use Rattle.cg_io.specs.declared.shelf.ReadEnd.{ReadEnd}
-use Rattle.cg_run.specs.Files.{limit, later, Reads, Finds, Misses}
+use Rattle.cg_run.specs.Files.{limit, Reads, Finds, Misses}
 
 some_longer : (n : ℕ) → (bytes : List ℕ) × (n < length bytes)
 some_longer n = let e = length-replicate {A = ℕ} (n + 1) 0 in (replicate (n + 1) 0, omega (arith, e))

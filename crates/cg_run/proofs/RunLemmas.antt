@@ -1,9 +1,9 @@
 -- What a run of one model and one session comes to.
-use Rattle.std.proofs.Common.{◌≡◌, ℕ, zero, suc, ◌+◌, ◌<◌, ◌≤◌, List, [], ◌∷◌, ◌++◌, length, Option, Some, None, refl, sym, ap, ◌∙◌, subst, append-nil, take, take_all, arith, Bool, IsTrue, IsFalse, ◌↔◌, string_bytes, ◌⊎◌, inl, inr}
+use Rattle.std.proofs.Common.{◌≡◌, ℕ, zero, suc, ◌<◌, ◌≤◌, List, [], ◌∷◌, length, Option, Some, refl, sym, subst, append-nil, take, take_all, arith, Bool, IsTrue, IsFalse, ◌↔◌, ◌⊎◌, inl, inr}
 use Rattle.std.proofs.lemmas.Bool.{cases_lt}
 use Rattle.cg_io.specs.Causes.{Rose}
-use Rattle.std.specs.Prelude.{slice_get}
-use Rattle.cg_io.specs.Shelf.{Files, after_read}
+use Rattle.std.specs.Prelude.{IfSome, slice_get}
+use Rattle.cg_io.specs.Shelf.{Files}
 use Rattle.cg_io.specs.Sink.{Takes}
 use Rattle.cg_meaning.specs.Tree.{Chronology, root_of}
 use Rattle.cg_meaning.specs.Scene.{scene_on}
@@ -11,10 +11,12 @@ use Rattle.cg_meaning.specs.Posterior.{IsMarginal}
 use Rattle.cg_form.specs.Model.{IsModel, HasNoModel}
 use Rattle.cg_form.specs.Script.{IsScript, HasNoScript}
 use Rattle.cg_form.specs.declared.script.Script.{Script}
+use Rattle.cg_marginal.specs.Pairs.{ArePairs}
+use Rattle.cg_up.specs.Recipe.{recipe}
 use Rattle.cg_run.specs.Words.{NamedFile, AreWords}
 use Rattle.cg_run.specs.Asked.{request_in, named_in, asked_in}
-use Rattle.cg_run.specs.Files.{Reads, Finds, ReadsAs, HasFault, limit}
-use Rattle.cg_run.specs.Inputs.{Asked, Asks, AsksNothing}
+use Rattle.cg_run.specs.Files.{Reads, ReadsAs, HasFault}
+use Rattle.cg_run.specs.Inputs.{AsksNothing}
 use Rattle.cg_run.specs.Transcript.{transcript_of}
 use Rattle.cg_run.specs.Run.{Reaches, LeadsTo, IsDone, IsCutOff, IsReadFault, IsRefused}
 use Rattle.cg_run.specs.Status.{status_of}
@@ -130,9 +132,10 @@ module _ (words : List (List ℕ)) (told : Option Files) (request : Request) (as
 
     pub leads_to : (now : Option Files) (script : Script) (marginal : Option (List (ℕ × ℕ))) (text : List ℕ) → Reads 1 told now →
         ReadsAs now request.session.now (λ bytes. IsScript bytes request.model.name.now model script.grid script.event script.name) →
-        IsMarginal (root_of model) (scene_on script.grid) script.event marginal → text ≡ transcript_of 1 (asked_in 0 script) marginal →
+        IsMarginal (root_of model) (scene_on script.grid) script.event marginal → marginal ≡ recipe (root_of model) (scene_on script.grid) script.event →
+        IfSome marginal ArePairs → text ≡ transcript_of 1 (asked_in 0 script) marginal →
         LeadsTo words told text
-    leads_to now script marginal text reads (bytes, finds, short, spells) right same = record {
+    leads_to now script marginal text reads (bytes, finds, short, spells) right by_recipe narrow same = record {
       request = request_in request;
       contents = read.0 ∷ bytes ∷ [];
       chronologies = model ∷ [];
@@ -146,7 +149,13 @@ module _ (words : List (List ℕ)) (told : Option Files) (request : Request) (as
         };
       };
       all = refl;
-      written = (text, [], record { chronology = model; meant = refl; marginal = marginal; right = right; same = same }, refl, sym (append-nil text));
+      written = (
+        text,
+        [],
+        record { chronology = model; meant = refl; marginal = marginal; right = right; recipe = by_recipe; narrow = narrow; same = same },
+        refl,
+        sym (append-nil text),
+      );
     }
 
 no_less : (n m : ℕ) → (n < m → ⊥) → m ≤ n

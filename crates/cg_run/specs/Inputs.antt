@@ -2,7 +2,7 @@
 use Rattle.std.specs.Prelude.{◌≡◌, ℕ, List, [], ◌∷◌, ◌++◌, length, map, take, drop, slice_get, Some}
 use Rattle.cg_meaning.specs.Tree.{Name, Chronology}
 use Rattle.cg_meaning.specs.Scene.{Grid}
-use Rattle.cg_form.specs.Model.{IsModel, HasNoModel}
+use Rattle.cg_form.specs.Model.{IsModel}
 use Rattle.cg_form.specs.Script.{IsScript}
 use Rattle.cg_run.specs.Words.{NamedFile, Request}
 

@@ -8,7 +8,6 @@ use Rattle.cg_run.specs.Words.{Request, AreWords, AreNoWords}
 use Rattle.cg_run.specs.Files.{limit, later, Reads, Finds, Misses, FindsAll}
 use Rattle.cg_run.specs.Inputs.{Asked, files_of, AreAccepted, AsksNothing}
 use Rattle.cg_run.specs.Transcript.{IsOutput}
-use Rattle.cg_run.specs.declared.status.FileKind.{FileKind}
 use Rattle.cg_run.specs.declared.status.FileKind.TheVariants.{Model, Session}
 use Rattle.cg_run.specs.declared.status.FileRef.{FileRef}
 use Rattle.cg_run.specs.declared.status.FileCause.{FileCause}

@@ -1,10 +1,12 @@
 -- What a session writes.
-use Rattle.std.specs.Prelude.{◌≡◌, ℕ, ◌+◌, ◌-◌, List, [], ◌∷◌, ◌++◌, codes, decimal, Option, Some, None, slice_get, ℤ}
+use Rattle.std.specs.Prelude.{◌≡◌, ℕ, ◌+◌, ◌-◌, List, [], ◌∷◌, ◌++◌, codes, decimal, Option, Some, None, IfSome, slice_get, ℤ}
 use Rattle.std.specs.Fmt.{signed_decimal}
 use Rattle.cg_num.specs.Label.{label_of}
-use Rattle.cg_meaning.specs.Tree.{Name, Chronology, root_of}
+use Rattle.cg_meaning.specs.Tree.{Chronology, root_of}
 use Rattle.cg_meaning.specs.Scene.{Grid, scene_on, year_of}
 use Rattle.cg_meaning.specs.Posterior.{IsMarginal}
+use Rattle.cg_marginal.specs.Pairs.{ArePairs}
+use Rattle.cg_up.specs.Recipe.{recipe as recipe_of}
 use Rattle.cg_run.specs.Inputs.{Asked}
 
 abbrev pub line : List ℕ → List ℕ
@@ -42,12 +44,15 @@ ending_of number = line (codes "end " ++ decimal number)
 abbrev pub transcript_of : ℕ → Asked → Option (List (ℕ × ℕ)) → List ℕ
 transcript_of number asked marginal = heading_of number asked ++ marginal_lines asked marginal ++ ending_of number
 
--- A transcript of the session of this number: its marginal is one of the event that it asks for.
+-- A transcript of the session of this number: its marginal is one of the event that it asks for, has the values of
+-- the recipe, and its pairs are at most 3 wide.
 pub record IsTranscript (chronologies : List Chronology) (number : ℕ) (asked : Asked) (text : List ℕ) : Type 0 where
   pub chronology : Chronology
   pub meant : slice_get chronologies asked.model ≡ Some chronology
   pub marginal : Option (List (ℕ × ℕ))
   pub right : IsMarginal (root_of chronology) (scene_on asked.grid) asked.event marginal
+  pub recipe : marginal ≡ recipe_of (root_of chronology) (scene_on asked.grid) asked.event
+  pub narrow : IfSome marginal ArePairs
   pub same : text ≡ transcript_of number asked marginal
 
 -- the transcripts of the sessions from this number on, in their order

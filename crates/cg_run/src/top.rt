@@ -10,8 +10,8 @@ use crate::file::{FileFault, model_of, script_of};
 use crate::status::{Ended, FileCause, FileKind, FileRef, Status};
 use crate::transcript::transcript;
 use crate::words::request_of;
-use cg_count::marginal_of;
 use cg_io::{Shelf, Sink, Written, write_whole};
+use cg_up::evaluate;
 use std::alloc::Global;
 
 fn status_of(fault: FileFault, kind: FileKind) -> Status
@@ -97,7 +97,7 @@ pub fn run_alone<H: Shelf, K: Sink>(
         Ok(script) => script,
         Err(fault) => return stopped(status_of(fault, FileKind::Session)),
     };
-    let Ok(marginal) = marginal_of(alloc, &model, script.event, &script.grid) else {
+    let Ok(marginal) = evaluate(alloc, &model, script.event, &script.grid) else {
         return stopped(Status::NoMemory);
     };
     let Ok(text) = transcript(alloc, 1, 0, &script, &marginal) else {

@@ -1,6 +1,8 @@
 use super::{PRINT_A, TWO_EVENTS, open_sink, run_files, shelf_with, words_of};
 use crate::status::{FileCause, FileKind, FileRef, Status, status_line};
 use crate::top::run_alone;
+use std::alloc::Global;
+use std::fmt::Write;
 use std::test::Fail;
 
 const fn refused(kind: FileKind, cause: FileCause) -> Status {
@@ -8,136 +10,154 @@ const fn refused(kind: FileKind, cause: FileCause) -> Status {
 }
 
 /// Words that ask for nothing, and words that ask in the other order.
+static WORD_LISTS: [(&[&str], Status); 12] = [
+    (
+        &["alone", "--sessions", "s", "--models", "main=m"],
+        Status::Done,
+    ),
+    (&[], Status::Usage),
+    (&["alone"], Status::Usage),
+    (&["alone", "--models", "main=m"], Status::Usage),
+    (
+        &["run", "--models", "main=m", "--sessions", "s"],
+        Status::Usage,
+    ),
+    (
+        &["alone", "--model", "main=m", "--sessions", "s"],
+        Status::Usage,
+    ),
+    (
+        &["alone", "--models", "main=m", "--models", "main=m"],
+        Status::Usage,
+    ),
+    (
+        &["alone", "--models", "m", "--sessions", "s"],
+        Status::Usage,
+    ),
+    (
+        &["alone", "--models", "=m", "--sessions", "s"],
+        Status::Usage,
+    ),
+    (
+        &["alone", "--models", "main=", "--sessions", "s"],
+        Status::Usage,
+    ),
+    (
+        &["alone", "--models", "main=m", "--sessions", "s,s"],
+        Status::Usage,
+    ),
+    (
+        &["alone", "--models", "main=m", "--sessions", "s", "--help"],
+        Status::Usage,
+    ),
+];
+
 #[test]
 fn words(rt: HostRuntime) -> Result<(), Fail> {
-    let cases: [(&[&str], Status); 12] = [
-        (
-            &["alone", "--sessions", "s", "--models", "main=m"],
-            Status::Done,
-        ),
-        (&[], Status::Usage),
-        (&["alone"], Status::Usage),
-        (&["alone", "--models", "main=m"], Status::Usage),
-        (
-            &["run", "--models", "main=m", "--sessions", "s"],
-            Status::Usage,
-        ),
-        (
-            &["alone", "--model", "main=m", "--sessions", "s"],
-            Status::Usage,
-        ),
-        (
-            &["alone", "--models", "main=m", "--models", "main=m"],
-            Status::Usage,
-        ),
-        (
-            &["alone", "--models", "m", "--sessions", "s"],
-            Status::Usage,
-        ),
-        (
-            &["alone", "--models", "=m", "--sessions", "s"],
-            Status::Usage,
-        ),
-        (
-            &["alone", "--models", "main=", "--sessions", "s"],
-            Status::Usage,
-        ),
-        (
-            &["alone", "--models", "main=m", "--sessions", "s,s"],
-            Status::Usage,
-        ),
-        (
-            &["alone", "--models", "main=m", "--sessions", "s", "--help"],
-            Status::Usage,
-        ),
-    ];
-    for (texts, want) in cases {
+    for (texts, want) in &WORD_LISTS {
         let mut shelf = shelf_with(&rt, TWO_EVENTS.as_bytes(), PRINT_A.as_bytes())?;
         let mut sink = open_sink(&rt)?;
         let words = words_of(&rt, texts)?;
         let ended = run_alone(rt.alloc(), &words, &mut shelf, &mut sink);
-        assert_eq!(rt; ended.status, want, "{texts:?}");
+        assert_eq!(rt; ended.status, *want, "{texts:?}");
     }
     Ok(())
 }
+
+const MODEL: Status = Status::Refused(
+    FileRef {
+        kind: FileKind::Model,
+        number: 1,
+    },
+    0,
+    FileCause::Form,
+);
+
+const SESSION: Status = Status::Refused(
+    FileRef {
+        kind: FileKind::Session,
+        number: 1,
+    },
+    0,
+    FileCause::Form,
+);
 
 /// A model and a script, and the status.
+static FILES: [(&str, &str, Status); 16] = [
+    ("", PRINT_A, MODEL),
+    (TWO_EVENTS, "", SESSION),
+    ("Phase(){Date(\"A\");};", PRINT_A, MODEL),
+    ("Sequence(){Date(\"A\");Date(\"A\");};", PRINT_A, MODEL),
+    ("Sequence(){C_Date(\"A\",0);};", PRINT_A, MODEL),
+    ("Sequence(){C_Date(\"A\",2951);};", PRINT_A, MODEL),
+    ("Sequence(){C_Date(\"A\",-58052);};", PRINT_A, MODEL),
+    ("Sequence(){C_Date(\"A\",2950);};", PRINT_A, Status::Done),
+    ("Sequence(){C_Date(\"A\",-58051);};", PRINT_A, Status::Done),
+    (
+        "Sequence(){Date(\"ABCDEFGHIJKLMNOPQRST\");Date(\"A\");};",
+        PRINT_A,
+        Status::Done,
+    ),
+    (
+        "Sequence(){Date(\"ABCDEFGHIJKLMNOPQRSTU\");Date(\"A\");};",
+        PRINT_A,
+        MODEL,
+    ),
+    (
+        TWO_EVENTS,
+        "open other\ngrid 2002 2000\nprint \"A\"\n",
+        SESSION,
+    ),
+    (
+        TWO_EVENTS,
+        "open main\ngrid 2002 2000\nprint \"C\"\n",
+        SESSION,
+    ),
+    (
+        TWO_EVENTS,
+        "open main\ngrid 2511 2000\nprint \"A\"\n",
+        Status::Done,
+    ),
+    (
+        TWO_EVENTS,
+        "open main\ngrid 2512 2000\nprint \"A\"\n",
+        SESSION,
+    ),
+    (
+        TWO_EVENTS,
+        "open main\ngrid 2000 2001\nprint \"A\"\n",
+        SESSION,
+    ),
+];
+
 #[test]
 fn files(rt: HostRuntime) -> Result<(), Fail> {
-    let model = refused(FileKind::Model, FileCause::Form);
-    let session = refused(FileKind::Session, FileCause::Form);
-    let cases = [
-        ("", PRINT_A, model),
-        (TWO_EVENTS, "", session),
-        ("Phase(){Date(\"A\");};", PRINT_A, model),
-        ("Sequence(){Date(\"A\");Date(\"A\");};", PRINT_A, model),
-        ("Sequence(){C_Date(\"A\",0);};", PRINT_A, model),
-        ("Sequence(){C_Date(\"A\",2951);};", PRINT_A, model),
-        ("Sequence(){C_Date(\"A\",-58052);};", PRINT_A, model),
-        ("Sequence(){C_Date(\"A\",2950);};", PRINT_A, Status::Done),
-        ("Sequence(){C_Date(\"A\",-58051);};", PRINT_A, Status::Done),
-        (
-            "Sequence(){Date(\"ABCDEFGHIJKLMNOPQRST\");Date(\"A\");};",
-            PRINT_A,
-            Status::Done,
-        ),
-        (
-            "Sequence(){Date(\"ABCDEFGHIJKLMNOPQRSTU\");Date(\"A\");};",
-            PRINT_A,
-            model,
-        ),
-        (
-            TWO_EVENTS,
-            "open other\ngrid 2002 2000\nprint \"A\"\n",
-            session,
-        ),
-        (
-            TWO_EVENTS,
-            "open main\ngrid 2002 2000\nprint \"C\"\n",
-            session,
-        ),
-        (
-            TWO_EVENTS,
-            "open main\ngrid 2511 2000\nprint \"A\"\n",
-            Status::Done,
-        ),
-        (
-            TWO_EVENTS,
-            "open main\ngrid 2512 2000\nprint \"A\"\n",
-            session,
-        ),
-        (
-            TWO_EVENTS,
-            "open main\ngrid 2000 2001\nprint \"A\"\n",
-            session,
-        ),
-    ];
-    for (text, script, want) in cases {
+    for (text, script, want) in &FILES {
         let mut sink = open_sink(&rt)?;
         let ended = run_files(&rt, text.as_bytes(), script.as_bytes(), &mut sink)?;
-        assert_eq!(rt; ended.status, want, "{text} {script}");
+        assert_eq!(rt; ended.status, *want, "{text} {script}");
     }
     Ok(())
 }
 
-/// Twelve members and thirteen.
+/// A Sequence of so many Dates, with the names A0, A1 and so on.
+fn dates(alloc: Global, count: usize) -> Result<String, Fail> {
+    let mut model = String::from_str(alloc, "Sequence(){")?;
+    for member in 0..count {
+        write!(model, "Date(\"A{member}\");")?;
+    }
+    model.push_str("};")?;
+    Ok(model)
+}
+
+/// A hundred members on the largest grid, and a hundred and one.
 #[test]
 fn members(rt: HostRuntime) -> Result<(), Fail> {
-    let cases = [
-        (12, Status::Done),
-        (13, refused(FileKind::Model, FileCause::Form)),
-    ];
-    for (count, want) in cases {
-        let mut model = Vec::from_slice(rt.alloc(), b"Sequence(){")?;
-        for member in 0..count {
-            model.extend_from_slice(b"Date(\"A")?;
-            model.push(b'a' + member)?;
-            model.extend_from_slice(b"\");")?;
-        }
-        model.extend_from_slice(b"};")?;
-        let script = b"open main\ngrid 2511 2000\nprint \"Aa\"\n";
+    for (count, want) in [(100, Status::Done), (101, MODEL)] {
+        let model = dates(rt.alloc(), count)?;
+        let script = "open main\ngrid 2511 2000\nprint \"A0\"\n";
         let mut sink = open_sink(&rt)?;
-        let ended = run_files(&rt, &model, script.as_slice(), &mut sink)?;
+        let ended = run_files(&rt, model.as_bytes(), script.as_bytes(), &mut sink)?;
         assert_eq!(rt; ended.status, want, "{count} members");
     }
     Ok(())

@@ -46,7 +46,8 @@ returns-clause-done g c = λ e.
     let words = map string_bytes c.args.words.now in let told = g.H.Shelf.told c.args.shelf.now in
     let now = g.H.Shelf.told c.model_of.new.shelf in let text = c.deref.result.now in
     let right = leads_to words told c.in-Some.request c.in-Some.ensures.some c.in-Ok.model c.in-Ok.ensures.model now c.in-Ok-script_of.script
-    (pairs_of c.in-Ok-marginal_of.marginal) text c.in-Ok.ensures.reads c.in-Ok-script_of.ensures.script c.in-Ok-marginal_of.ensures.holds
+    (pairs_of c.in-Ok-evaluate.marginal) text c.in-Ok.ensures.reads c.in-Ok-script_of.ensures.script c.in-Ok-evaluate.ensures.holds
+    c.in-Ok-evaluate.ensures.recipe c.in-Ok-evaluate.ensures.narrow
     (c.deref.ensures.value ∙ c.in-Ok-transcript.ensures) in
     subst (λ n. IsDone words told (g.K.Sink.taken c.args.out.now) (g.K.Sink.taken c.write_whole.new.sink) n) (sym c.ended.ensures.taken)
     (done words told _ _ c.write_whole.result.taken c.write_whole.result.failed text right c.write_whole.ensures.within c.write_whole.ensures.failed (c.ended.ensures.done e) c.write_whole.ensures.taken)
@@ -56,7 +57,8 @@ returns-clause-write_fault g c = λ e.
     let words = map string_bytes c.args.words.now in let told = g.H.Shelf.told c.args.shelf.now in
     let now = g.H.Shelf.told c.model_of.new.shelf in let text = c.deref.result.now in
     let right = leads_to words told c.in-Some.request c.in-Some.ensures.some c.in-Ok.model c.in-Ok.ensures.model now c.in-Ok-script_of.script
-    (pairs_of c.in-Ok-marginal_of.marginal) text c.in-Ok.ensures.reads c.in-Ok-script_of.ensures.script c.in-Ok-marginal_of.ensures.holds
+    (pairs_of c.in-Ok-evaluate.marginal) text c.in-Ok.ensures.reads c.in-Ok-script_of.ensures.script c.in-Ok-evaluate.ensures.holds
+    c.in-Ok-evaluate.ensures.recipe c.in-Ok-evaluate.ensures.narrow
     (c.deref.ensures.value ∙ c.in-Ok-transcript.ensures) in
     let fault = c.ended.ensures.cut_off e in (
       subst (λ n. IsCutOff words told (g.K.Sink.taken c.args.out.now) (g.K.Sink.taken c.write_whole.new.sink) n) (sym c.ended.ensures.taken)
@@ -116,5 +118,6 @@ returns-clause-exact g c =
     let now = g.H.Shelf.told c.model_of.new.shelf in let text = c.deref.result.now in
     exact_whole one-model words told c.ended.result.status text
     (leads_to words told c.in-Some.request c.in-Some.ensures.some c.in-Ok.model c.in-Ok.ensures.model now c.in-Ok-script_of.script
-    (pairs_of c.in-Ok-marginal_of.marginal) text c.in-Ok.ensures.reads c.in-Ok-script_of.ensures.script c.in-Ok-marginal_of.ensures.holds
+    (pairs_of c.in-Ok-evaluate.marginal) text c.in-Ok.ensures.reads c.in-Ok-script_of.ensures.script c.in-Ok-evaluate.ensures.holds
+    c.in-Ok-evaluate.ensures.recipe c.in-Ok-evaluate.ensures.narrow
     (c.deref.ensures.value ∙ c.in-Ok-transcript.ensures))

@@ -1,4 +1,3 @@
-use Rattle.std.proofs.Common.{sym, subst}
 use Rattle.cg_run.proofs.WordsLemmas.{refuted, the_model, the_session}
 use Rattle.cg_run.proofs.words.request_in_lists.Goals as goal
 

@@ -1,5 +1,0 @@
-pub mod Ways
-pub mod Chains
-pub mod Totals
-pub mod Held
-mod Built
