@@ -1,0 +1,44 @@
+-- What a change is that is accepted.
+use Rattle.std.proofs.Common.{◌≡◌, ◌≤◌, true, false, cond, List, [], ◌∷◌, refl, sym, subst, Option, Some, None, Ok}
+use Rattle.std.specs.Prelude.{nat_lt}
+use Rattle.std.proofs.lemmas.Bool.{ltb-false}
+use Rattle.cg_meaning.specs.Tree.{Tree, Trees, count_all}
+use Rattle.cg_model.specs.Limits.{groups_in, depth_in}
+use Rattle.cg_model.specs.declared.model.Limit.{Limit}
+use Rattle.cg_model.specs.declared.model.Limit.TheVariants.{Events, Groups, Depth}
+use Rattle.cg_sharing.specs.Edit.{Edit, NodeKind, target_of, edited, wrong_kind, limit_passed, within, checked, named, result_for, result_of}
+
+-- one node has the name, its kind is right, and the changed statements pass no limit
+pub record IsAccepted (edit : Edit) (before after : Trees) : Type 0 where
+  pub node : Tree
+  pub only : named (target_of edit) before ≡ node ∷ []
+  pub right : wrong_kind edit node ≡ None
+  pub fits : limit_passed after ≡ None
+  pub changed : after ≡ edited edit before
+
+for_limit : (edit : Edit) (before after : Trees) (node : Tree) (limit : Option Limit) → named (target_of edit) before ≡ node ∷ [] → wrong_kind edit node ≡ None → limit_passed (edited edit before) ≡ limit → within limit (edited edit before) ≡ Ok after → IsAccepted edit before after
+for_limit edit before after node None only right fits is =
+    let same : edited edit before ≡ after = cc in
+    record { node = node; only = only; right = right; fits = subst (λ ts. limit_passed ts ≡ None) same fits; changed = sym same }
+for_limit edit before after node (Some limit) only right fits is = absurd (cc)
+
+for_kind : (edit : Edit) (before after : Trees) (node : Tree) (kind : Option NodeKind) → named (target_of edit) before ≡ node ∷ [] → wrong_kind edit node ≡ kind → checked kind (edited edit before) ≡ Ok after → IsAccepted edit before after
+for_kind edit before after node None only right is = for_limit edit before after node (limit_passed (edited edit before)) only right refl is
+for_kind edit before after node (Some kind) only right is = absurd (cc)
+
+for_nodes : (edit : Edit) (before after : Trees) (nodes : List Tree) → named (target_of edit) before ≡ nodes → result_for nodes edit before ≡ Ok after → IsAccepted edit before after
+for_nodes edit before after [] only is = absurd (cc)
+for_nodes edit before after (node ∷ []) only is = for_kind edit before after node (wrong_kind edit node) only refl is
+for_nodes edit before after (node ∷ next ∷ others) only is = absurd (cc)
+
+pub accepted : (edit : Edit) (before after : Trees) → result_of edit before ≡ Ok after → IsAccepted edit before after
+unfolding result_of
+accepted edit before after is = for_nodes edit before after (named (target_of edit) before) refl is
+
+-- statements that pass no limit have at most 100 events
+pub limit_passed-few : (ts : Trees) → limit_passed ts ≡ None → count_all ts ≤ 100
+limit_passed-few ts is =
+    elim (nat_lt 100 (count_all ts)) as (λ b. nat_lt 100 (count_all ts) ≡ b → cond b (Some Events) (cond (nat_lt 60 (groups_in ts)) (Some Groups) (cond (nat_lt 16 (depth_in ts)) (Some Depth) None)) ≡ None → count_all ts ≤ 100) [
+      | true ↦ λ more_than passed. absurd (cc)
+      | false ↦ λ at_most passed. ltb-false 100 (count_all ts) at_most
+    ] refl is

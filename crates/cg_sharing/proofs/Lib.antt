@@ -1,0 +1,8 @@
+pub mod EditCases
+pub mod EditLemmas
+pub mod PlainLemmas
+pub mod JournalLemmas
+pub mod CourseLemmas
+pub mod ReachLemmas
+pub mod InterleavingLemmas
+pub mod CourseCases

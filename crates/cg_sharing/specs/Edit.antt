@@ -1,0 +1,122 @@
+-- Changes of a model's statements: what each makes of them, and why it is refused. chron's own.
+use Rattle.std.specs.Prelude.{ℕ, nat_lt, List, [], ◌∷◌, length, bytes_eq, Option, Some, None, option_map, Result, Ok, Err, if◌then◌else◌}
+use Rattle.std.specs.List.{filter}
+use Rattle.cg_meaning.specs.Tree.{Name, Dating, Tree, Leaf, Boundary, Group, Trees, none, more, Kind, count_all, nodes_of_all, name_of}
+use Rattle.cg_meaning.specs.Order.{is_sequence}
+use Rattle.cg_model.specs.Node.{trees_with}
+use Rattle.cg_model.specs.Limits.{groups_in, depth_in}
+use Rattle.cg_model.specs.declared.model.Limit.{Limit}
+use Rattle.cg_model.specs.declared.model.Limit.TheVariants.{Events, Groups, Depth}
+
+-- A change of the one node that has a name: a new dating for a leaf, or a further member behind those of a group.
+pub data Edit : Type 0 where
+  Set : Name → Dating → Edit
+  Add : Name → Tree → Edit
+
+-- what a node is
+pub data NodeKind : Type 0 where
+  a_leaf : NodeKind
+  a_boundary : NodeKind
+  a_group : Kind → NodeKind
+
+-- why a change is refused
+pub data EditFault : Type 0 where
+  NoName : EditFault
+  Ambiguous : ℕ → EditFault
+  WrongKind : NodeKind → EditFault
+  Past : Limit → EditFault
+
+abbrev pub kind_of : Tree → NodeKind
+kind_of (Leaf name dating) = a_leaf
+kind_of (Boundary name) = a_boundary
+kind_of (Group kind name ts) = a_group kind
+
+-- the name that the change is for
+abbrev pub target_of : Edit → Name
+target_of (Set name dating) = name
+target_of (Add name node) = name
+
+-- each leaf of this name has this dating, and all else stays
+abbrev mutual
+  pub dated : Name → Dating → Tree → Tree
+  dated name dating (Leaf other before) = if bytes_eq other name then Leaf other dating else Leaf other before
+  dated name dating (Boundary other) = Boundary other
+  dated name dating (Group kind other ts) = Group kind other (dated_all name dating ts)
+
+  pub dated_all : Name → Dating → Trees → Trees
+  dated_all name dating none = none
+  dated_all name dating (more t ts) = more (dated name dating t) (dated_all name dating ts)
+
+-- each group of this name has the node behind its members, and all else stays
+abbrev mutual
+  pub extended : Name → Tree → Tree → Tree
+  extended name node (Leaf other dating) = Leaf other dating
+  extended name node (Boundary other) = Boundary other
+  extended name node (Group kind other ts) =
+      if bytes_eq other name then Group kind other (trees_with ts node) else Group kind other (extended_all name node ts)
+
+  pub extended_all : Name → Tree → Trees → Trees
+  extended_all name node none = none
+  extended_all name node (more t ts) = more (extended name node t) (extended_all name node ts)
+
+-- the statements after a change
+abbrev pub edited : Edit → Trees → Trees
+edited (Set name dating) ts = dated_all name dating ts
+edited (Add name node) ts = extended_all name node ts
+
+-- the first kind, or the second where there is none
+abbrev pub or_else : Option Kind → Option Kind → Option Kind
+or_else (Some kind) other = Some kind
+or_else None other = other
+
+-- the group in which a Boundary stands out of place: the first one, as a member of a group of this kind or below it
+abbrev mutual
+  pub misplaced_in : Kind → Tree → Option Kind
+  misplaced_in parent (Leaf name dating) = None
+  misplaced_in parent (Boundary name) = if is_sequence parent then None else Some parent
+  misplaced_in parent (Group kind name ts) = misplaced_in_all kind ts
+
+  pub misplaced_in_all : Kind → Trees → Option Kind
+  misplaced_in_all parent none = None
+  misplaced_in_all parent (more t ts) = or_else (misplaced_in parent t) (misplaced_in_all parent ts)
+
+-- the kind for which the change of this node is refused
+abbrev pub wrong_kind : Edit → Tree → Option NodeKind
+wrong_kind (Set name dating) (Leaf other before) = None
+wrong_kind (Set name dating) (Boundary other) = Some a_boundary
+wrong_kind (Set name dating) (Group kind other ts) = Some (a_group kind)
+wrong_kind (Add name node) (Leaf other before) = Some a_leaf
+wrong_kind (Add name node) (Boundary other) = Some a_boundary
+wrong_kind (Add name node) (Group kind other ts) = option_map (λ parent. a_group parent) (misplaced_in kind node)
+
+-- the first limit that statements pass
+abbrev pub limit_passed : Trees → Option Limit
+limit_passed ts =
+    if nat_lt 100 (count_all ts) then Some Events
+    else (if nat_lt 60 (groups_in ts) then Some Groups
+    else (if nat_lt 16 (depth_in ts) then Some Depth
+    else None))
+
+-- these statements, or the limit that they pass
+abbrev pub within : Option Limit → Trees → Result Trees EditFault
+within None ts = Ok ts
+within (Some limit) ts = Err (Past limit)
+
+-- the statements after a change of this node, or why it is refused: first for the node's kind, then for a limit
+abbrev pub checked : Option NodeKind → Trees → Result Trees EditFault
+checked (Some kind) ts = Err (WrongKind kind)
+checked None ts = within (limit_passed ts) ts
+
+-- the nodes of this name
+abbrev pub named : Name → Trees → List Tree
+named name ts = filter (λ t. bytes_eq (name_of t) name) (nodes_of_all ts)
+
+-- the statements after a change, or why it is refused, where these nodes have the name
+abbrev pub result_for : List Tree → Edit → Trees → Result Trees EditFault
+result_for [] edit ts = Err NoName
+result_for (node ∷ []) edit ts = checked (wrong_kind edit node) (edited edit ts)
+result_for (node ∷ next ∷ others) edit ts = Err (Ambiguous (length (node ∷ next ∷ others)))
+
+-- the statements after a change, or why it is refused
+unfoldable pub result_of : Edit → Trees → Result Trees EditFault
+result_of edit ts = result_for (named (target_of edit) ts) edit ts

@@ -1,0 +1,105 @@
+-- The journal of all events of the book, and what makes it legal. chron's own.
+use Rattle.std.specs.Prelude.{◌≡◌, ◌≢◌, ℕ, ◌<◌, nat_lt, nat_eq, List, [], ◌∷◌, Option, Some, None, Result, Ok, Err, if◌then◌else◌}
+use Rattle.std.specs.List.{All}
+use Rattle.cg_meaning.specs.Tree.{Name, Tree, Leaf, Boundary, Group, Trees, datings_of}
+use Rattle.cg_meaning.specs.Sequence.{IsPlain}
+use Rattle.cg_model.specs.Limits.{IsInRange}
+use Rattle.cg_sharing.specs.Edit.{Edit, Set, Add, EditFault, result_of}
+use Rattle.cg_sharing.specs.Versions.{State, count_of, head_of, with_head, parent_of, chronology_of, with_version}
+
+-- what a session asks of the book, versions being named by their numbers
+pub data Act : Type 0 where
+  Head : Name → Act
+  Take : ℕ → Act
+  Undo : ℕ → Act
+  Change : ℕ → Edit → Act
+  Commit : Name → Option ℕ → ℕ → Act
+
+-- what the book answers
+pub data Answer : Type 0 where
+  At : ℕ → Answer
+  Made : ℕ → Answer
+  Committed : ℕ → Answer
+  NoModel : Answer
+  NoVersion : ℕ → Answer
+  NoParent : Answer
+  Refused : EditFault → Answer
+  Moved : ℕ → Answer
+
+pub record Entry : Type 0 where
+  pub seat : ℕ
+  pub act : Act
+  pub answer : Answer
+
+abbrev pub at_or : Answer → Option ℕ → Answer
+at_or other None = other
+at_or other (Some version) = At version
+
+abbrev pub made_or : ℕ → Result Trees EditFault → Answer
+made_or number (Ok top) = Made number
+made_or number (Err fault) = Refused fault
+
+abbrev pub is_base : Option ℕ → ℕ → Answer → Answer
+is_base None head right = Moved head
+is_base (Some base) head right = if nat_eq base head then right else Moved head
+
+abbrev pub committed_or : Option ℕ → ℕ → Option ℕ → Answer
+committed_or base version None = NoModel
+committed_or base version (Some head) = is_base base head (Committed version)
+
+-- the answer to an act: a commit is refused where the head isn't its base
+abbrev pub answer_of : State → Act → Answer
+answer_of state (Head name) = at_or NoModel (head_of name state.heads)
+answer_of state (Take version) = if nat_lt version (count_of state) then At version else NoVersion (count_of state)
+answer_of state (Undo version) = at_or NoParent (parent_of state version)
+answer_of state (Change version edit) = made_or (count_of state) (result_of edit (chronology_of state version).top)
+answer_of state (Commit name base version) = committed_or base version (head_of name state.heads)
+
+-- a further version where a change made one
+abbrev pub with_result : ℕ → Result Trees EditFault → State → State
+with_result parent (Ok top) state = with_version parent top state
+with_result parent (Err fault) state = state
+
+-- the state after an act that was answered so: a change that made a version, and a commit that set a head
+abbrev pub changed_by : Act → Answer → State → State
+changed_by (Change version edit) (Made number) state = with_result version (result_of edit (chronology_of state version).top) state
+changed_by (Commit name base version) (Committed number) state = record state { heads = with_head name version state.heads }
+changed_by act answer state = state
+
+abbrev pub after : State → Entry → State
+after state entry = changed_by entry.act entry.answer state
+
+-- the state after a list of entries
+abbrev pub state_after : State → List Entry → State
+state_after state [] = state
+state_after state (entry ∷ entries) = state_after (after state entry) entries
+
+-- the values that a change brings are in their ranges, and its name isn't empty
+abbrev pub IsInOrder : Edit → Type 0
+IsInOrder (Set name dating) = (name ≢ []) × IsInRange dating
+IsInOrder (Add name node) = (name ≢ []) × All IsInRange (datings_of node)
+
+-- what sessions may bring today: a leaf without an error
+abbrev pub IsPlainLeaf : Tree → Type 0
+IsPlainLeaf (Leaf name dating) = IsPlain dating
+IsPlainLeaf (Boundary name) = ⊥
+IsPlainLeaf (Group kind name ts) = ⊥
+
+abbrev pub BringsPlain : Edit → Type 0
+BringsPlain (Set name dating) = IsPlain dating
+BringsPlain (Add name node) = IsPlainLeaf node
+
+-- each version number of an act that is no question is known, and its change is in order
+abbrev pub May : State → Act → Type 0
+May state (Head name) = Unit {0}
+May state (Take version) = Unit {0}
+May state (Undo version) = version < count_of state
+May state (Change version edit) = (version < count_of state) × IsInOrder edit × BringsPlain edit
+May state (Commit name None version) = version < count_of state
+May state (Commit name (Some base) version) = (base < count_of state) × (version < count_of state)
+
+-- each answer is the one that the start and the entries before it give
+abbrev pub IsLegal : State → List Entry → Type 0
+IsLegal state [] = Unit {0}
+IsLegal state (entry ∷ entries) =
+    May state entry.act × (entry.answer ≡ answer_of state entry.act) × IsLegal (after state entry) entries
