@@ -1,0 +1,16 @@
+//! Changes of a model: a new tree for each, while the old one stays.
+#![tactic(auto)]
+
+mod change;
+mod copy;
+mod edit;
+mod fault;
+mod law;
+mod misplaced;
+#[cfg(test)]
+mod tests;
+
+pub use change::apply;
+pub use edit::Edit;
+pub use fault::{EditFault, Kind};
+pub use law::all_else_stays;
