@@ -1,0 +1,109 @@
+ghost use Rattle.std.specs.Prelude.{◌≡◌, [], ◌∷◌, ◌++◌, map, OnOk, OnErr};
+ghost use Rattle.cg_book.specs.Plain.{entry_in};
+
+use cg_edit::{Edit, EditFault};
+use cg_model::Name;
+use cg_num::NoMemory;
+use std::alloc::Global;
+use std::marker::Model;
+
+/// An event in plain form.
+#[derive(Drop)]
+pub enum Act {
+    /// The version that a model's name stands for.
+    Head(Name),
+    /// A version.
+    Take(u32),
+    /// The parent of a version.
+    Undo(u32),
+    /// A further version, made from a version by a change.
+    Change(u32, Edit),
+    /// That a name stand for a version, where it stands for the base.
+    Commit(Name, Option<u32>, u32),
+}
+
+/// A reply in plain form: versions are named by their numbers.
+#[derive(Clone, Copy, Debug, PartialEq, Eq)]
+pub enum Answer {
+    /// A version.
+    At(u32),
+    /// A further version.
+    Made(u32),
+    /// The name stands for this version.
+    Committed(u32),
+    /// No head has the name.
+    NoModel,
+    /// There are only so many versions.
+    NoVersion(u32),
+    /// The version has no parent.
+    NoParent,
+    /// The change was refused; it is never for want of memory.
+    Refused(EditFault),
+    /// The name stands for this version, which isn't the base.
+    Moved(u32),
+}
+
+/// What one session asked, and what the book answered. Seats are named by their numbers.
+#[derive(Drop)]
+pub struct Entry {
+    /// The session's seat.
+    pub seat: u32,
+    /// What it asked.
+    pub act: Act,
+    /// What the book answered.
+    pub answer: Answer,
+}
+
+/// All events of a book in their order.
+#[derive(Drop)]
+pub struct Journal {
+    entries: Vec<Entry>,
+}
+
+impl Model for Journal {
+    ghost use Rattle.std.specs.Prelude.{List, map};
+    ghost use Rattle.cg_sharing.specs.Journal as meaning;
+    ghost use Rattle.cg_book.specs.Plain.{entry_in};
+
+    ghost Value = { List meaning.Entry };
+
+    ghost use Rattle.std.specs.Coded.{codes};
+    ghost use Rattle.cg_book.specs.Stored.{coded_tree};
+
+    ghost coded = { Prim.hlevel (codes, coded_tree) };
+
+    ghost view = { λ j. map entry_in j.entries.items };
+}
+
+impl Journal {
+    /// No entry. It takes its memory from `alloc` as it grows.
+    pub fn new(alloc: Global) -> Journal
+        ensures { result ≡ [] }
+    {
+        Journal {
+            entries: Vec::new(alloc),
+        }
+    }
+
+    /// Appends an entry. Where it is refused for want of memory it is dropped, and the journal is as before.
+    pub fn push(&mut self, entry: Entry) -> Result<(), NoMemory>
+        ensures ok { OnOk result (self.new ≡ self.old ++ entry_in entry ∷ []) }
+        ensures err { OnErr result (self.new ≡ self.old) }
+    {
+        self.entries.push(entry)?;
+        Ok(())
+    }
+
+    pub(crate) fn of(entries: Vec<Entry>) -> Journal
+        ensures { result ≡ map entry_in entries.items }
+    {
+        Journal { entries }
+    }
+
+    /// The entries, the first event first. Takes no memory.
+    pub fn entries(&self) -> &[Entry]
+        ensures { map entry_in result.now ≡ self.now }
+    {
+        &self.entries
+    }
+}
