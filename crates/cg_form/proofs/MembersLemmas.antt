@@ -91,21 +91,21 @@ members-full left before bytes e = rw e refl
 
 -- a step of the loop over the members: one more is read
 pub reads-one : (count : ℕ) (before now : List (Name × Dating)) (bytes : List ℕ) (leaf : Name × Dating) (rest : List ℕ) (whole : Option (List (Name × Dating) × List ℕ))
-    → members_at (12 - count) before bytes ≡ whole → count < 12 → (slice_index bytes 0 == 125) ≡ false → ◌≡◌ {A = Option ((Name × Dating) × List ℕ)} (Some (leaf, rest)) (member_at bytes) → now ≡ before ++ leaf ∷ []
-    → members_at (12 - (count + 1)) now rest ≡ whole
+    → members_at (100 - count) before bytes ≡ whole → count < 100 → (slice_index bytes 0 == 125) ≡ false → ◌≡◌ {A = Option ((Name × Dating) × List ℕ)} (Some (leaf, rest)) (member_at bytes) → now ≡ before ++ leaf ∷ []
+    → members_at (100 - (count + 1)) now rest ≡ whole
 reads-one count before now bytes leaf rest whole so_far few e read more =
-    let next : 12 - count ≡ suc (12 - (count + 1)) = omega arith in
-    ap (λ ls. members_at (12 - (count + 1)) ls rest) more ∙ sym (members-next (12 - count) (12 - (count + 1)) before bytes (Some (leaf, rest)) next e read) ∙ so_far
+    let next : 100 - count ≡ suc (100 - (count + 1)) = omega arith in
+    ap (λ ls. members_at (100 - (count + 1)) ls rest) more ∙ sym (members-next (100 - count) (100 - (count + 1)) before bytes (Some (leaf, rest)) next e read) ∙ so_far
 
 -- or none is
 pub reads-none : (count : ℕ) (before : List (Name × Dating)) (bytes : List ℕ) (whole : Option (List (Name × Dating) × List ℕ))
-    → members_at (12 - count) before bytes ≡ whole → count < 12 → (slice_index bytes 0 == 125) ≡ false → None ≡ member_at bytes → whole ≡ None
+    → members_at (100 - count) before bytes ≡ whole → count < 100 → (slice_index bytes 0 == 125) ≡ false → None ≡ member_at bytes → whole ≡ None
 reads-none count before bytes whole so_far few e read =
-    let next : 12 - count ≡ suc (12 - (count + 1)) = omega arith in
-    sym so_far ∙ members-next (12 - count) (12 - (count + 1)) before bytes None next e read
+    let next : 100 - count ≡ suc (100 - (count + 1)) = omega arith in
+    sym so_far ∙ members-next (100 - count) (100 - (count + 1)) before bytes None next e read
 
 -- or all are
 pub reads-all : (count : ℕ) (before : List (Name × Dating)) (bytes : List ℕ) (whole : Option (List (Name × Dating) × List ℕ))
-    → members_at (12 - count) before bytes ≡ whole → (12 ≤ count) ⊎ ((slice_index bytes 0 == 125) ≡ true) → whole ≡ Some (before, bytes)
-reads-all count before bytes whole so_far (inl full) = sym so_far ∙ members-full (12 - count) before bytes (omega arith)
-reads-all count before bytes whole so_far (inr closed) = sym so_far ∙ members-closed (12 - count) before bytes closed
+    → members_at (100 - count) before bytes ≡ whole → (100 ≤ count) ⊎ ((slice_index bytes 0 == 125) ≡ true) → whole ≡ Some (before, bytes)
+reads-all count before bytes whole so_far (inl full) = sym so_far ∙ members-full (100 - count) before bytes (omega arith)
+reads-all count before bytes whole so_far (inr closed) = sym so_far ∙ members-closed (100 - count) before bytes closed

@@ -154,7 +154,7 @@ model-read bytes chronology h =
     let body = written ++ (codes "};" ++ h.end) in
     let whole : bytes ≡ codes "Sequence(" ++ (title h.named ++ (codes "){" ++ body)) = h.form ∙ ap (λ t. codes "Sequence(" ++ t) (model-parts (title h.named) written h.end) in
     let head : head_at bytes ≡ Some (name_of h.named, body) = ap head_at whole ∙ head-append h.named body h.text in
-    let read : members_at 12 [] body ≡ Some (leaves, codes "};" ++ h.end) = members-append 12 [] h.members (codes ";" ++ h.end) h.each h.few in
+    let read : members_at 100 [] body ≡ Some (leaves, codes "};" ++ h.end) = members-append 100 [] h.members (codes ";" ++ h.end) h.each h.few in
     let ended : is_tail (codes "};" ++ h.end) ≡ true = is-tail h.end h.ended in
     let distinct : are_distinct leaves ≡ true = distinct-are leaves (subst (λ ns. AllPairs (λ a b. a ≢ b) ns) (sym (names-kept h.members)) h.distinct) in
     rw (head, read, ended, distinct) refl
@@ -164,12 +164,12 @@ pub read-model : (bytes : List ℕ) (name : Name) (leaves : List (Name × Dating
 unfolding model_at
 read-model bytes name leaves h =
     passes _ (head_at bytes) _ (name, leaves) h (λ (name', inside) headed h1.
-    passes _ (members_at 12 [] inside) _ (name, leaves) h1 (λ (leaves', behind) read h2.
+    passes _ (members_at 100 [] inside) _ (name, leaves) h1 (λ (leaves', behind) read h2.
     let tested = if-some (is_tail behind && are_distinct leaves') (name', leaves') (name, leaves) h2 in
     let tests = and-both (is_tail behind) _ tested.0 in
     let pair = parts name' name leaves' leaves (ap (λ p. Some p) tested.1) in
     let head = head-is bytes name' inside headed in
-    let members = members-are 12 [] inside leaves' behind read in
+    let members = members-are 100 [] inside leaves' behind read in
     let tail = tail-is behind tests.0 in
     let said : map leaf_of members.members ≡ leaves' = members.says in
     let written = flat_map text_of members.members in
@@ -193,13 +193,13 @@ unfolding model_at
 headless bytes head = rw (← head) refl
 
 -- nor is one without a body
-pub bodiless : (bytes : List ℕ) (name : Name) (body : List ℕ) → ◌≡◌ {A = Option (Name × List ℕ)} (Some (name, body)) (head_at bytes) → members_at 12 [] body ≡ None → model_at bytes ≡ None
+pub bodiless : (bytes : List ℕ) (name : Name) (body : List ℕ) → ◌≡◌ {A = Option (Name × List ℕ)} (Some (name, body)) (head_at bytes) → members_at 100 [] body ≡ None → model_at bytes ≡ None
 unfolding model_at
 bodiless bytes name body head read = rw (← head, read) refl
 
 -- one with both is read by its end
 pub by_pieces : (bytes : List ℕ) (name : Name) (body : List ℕ) (leaves : List (Name × Dating)) (rest : List ℕ) (whole : Bool)
-    → ◌≡◌ {A = Option (Name × List ℕ)} (Some (name, body)) (head_at bytes) → members_at 12 [] body ≡ Some (leaves, rest)
+    → ◌≡◌ {A = Option (Name × List ℕ)} (Some (name, body)) (head_at bytes) → members_at 100 [] body ≡ Some (leaves, rest)
     → whole ≡ (is_tail rest && are_distinct leaves) → model_at bytes ≡ cond whole (Some (name, leaves)) None
 unfolding model_at
 by_pieces bytes name body leaves rest whole head read test = rw (← head, read, test) refl

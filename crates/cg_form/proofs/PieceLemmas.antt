@@ -8,7 +8,7 @@ use Rattle.std.proofs.lemmas.List.Elements.{All-nil, All-cons}
 use Rattle.std.proofs.lemmas.Str.{IsUtf8-from_ascii}
 use Rattle.std.proofs.lemmas.Str.Ascii.{IsAscii-from_all}
 use Rattle.cg_form.specs.Text.{IsText, quoted}
-use Rattle.cg_form.specs.Pieces.{after, before, letters_at, text_at}
+use Rattle.cg_form.specs.Pieces.{after, before, run_at, letters_at, text_at}
 use Rattle.cg_form.proofs.StepLemmas.{passes, parts, if-some, and-both, is-either, same}
 
 -- a word that stands in front is passed
@@ -46,13 +46,13 @@ pub before-strip : (word bytes : List ℕ) (r : Option (Bor (List ℕ)))
 before-strip word bytes None h = rw h refl
 before-strip word bytes (Some x) h = rw h.0 (ap (λ t. Some t) h.1)
 
--- what passes a test, up to a byte that does not
-pub prefix-stops : (p : ℕ → Bool) (xs : List ℕ) (c : ℕ) (ys : List ℕ) → list_all p xs ≡ true → p c ≡ false → prefix_len p (xs ++ c ∷ ys) ≡ length xs
-prefix-stops p [] c ys h e = rw e refl
-prefix-stops p (x ∷ xs) c ys h e =
+-- what passes a test, before what does not begin so
+pub prefix-stops : (p : ℕ → Bool) (xs ys : List ℕ) → list_all p xs ≡ true → prefix_len p ys ≡ 0 → prefix_len p (xs ++ ys) ≡ length xs
+prefix-stops p [] ys h e = e
+prefix-stops p (x ∷ xs) ys h e =
     let both = and-both (p x) (list_all p xs) h in
     let first : p x ≡ true = both.0 in
-    let others : prefix_len p (xs ++ c ∷ ys) ≡ length xs = prefix-stops p xs c ys both.1 e in
+    let others : prefix_len p (xs ++ ys) ≡ length xs = prefix-stops p xs ys both.1 e in
     rw (first, others) (omega arith)
 
 -- and nothing else
@@ -70,18 +70,22 @@ prefix-passes p (x ∷ xs) =
 letter-small : (c : ℕ) → is_ascii_alphanumeric c ≡ true → c < 128
 letter-small c h = grind (arith, nat_tests)
 
--- so are letters and digits
-letters-small : (text : List ℕ) → list_all is_ascii_alphanumeric text ≡ true → All (λ c. c < 128) text
-letters-small [] h = All-nil (λ c. c < 128)
-letters-small (c ∷ cs) h =
-    let both = and-both (is_ascii_alphanumeric c) (list_all is_ascii_alphanumeric cs) h in
-    All-cons (λ c. c < 128) c cs (letter-small c both.0) (letters-small cs both.1)
+-- so is what passes a test of ASCII
+all-small : (p : ℕ → Bool) → ((c : ℕ) → p c ≡ true → c < 128) → (text : List ℕ) → list_all p text ≡ true → All (λ c. c < 128) text
+all-small p small [] h = All-nil (λ c. c < 128)
+all-small p small (c ∷ cs) h =
+    let both = and-both (p c) (list_all p cs) h in
+    All-cons (λ c. c < 128) c cs (small c both.0) (all-small p small cs both.1)
 
--- so letters in front are a text
+-- so what passes it in front is a text
+pub run-utf8 : (p : ℕ → Bool) → ((c : ℕ) → p c ≡ true → c < 128) → (bytes front : List ℕ) → front ≡ take (prefix_len p bytes) bytes → IsUtf8 front
+run-utf8 p small bytes front e =
+    let plain : list_all p front ≡ true = ap (λ t. list_all p t) e ∙ prefix-passes p bytes in
+    IsUtf8-from_ascii front (IsAscii-from_all front (all-small p small front plain))
+
+-- so are letters in front
 pub letters-utf8 : (bytes front : List ℕ) → front ≡ take (prefix_len is_ascii_alphanumeric bytes) bytes → IsUtf8 front
-letters-utf8 bytes front e =
-    let plain : list_all is_ascii_alphanumeric front ≡ true = ap (λ t. list_all is_ascii_alphanumeric t) e ∙ prefix-passes is_ascii_alphanumeric bytes in
-    IsUtf8-from_ascii front (IsAscii-from_all front (letters-small front plain))
+letters-utf8 bytes front e = run-utf8 is_ascii_alphanumeric letter-small bytes front e
 
 -- the two parts of an append
 pub take-front : (xs ys : List ℕ) → take (length xs) (xs ++ ys) ≡ xs
@@ -93,34 +97,55 @@ pub drop-front : (xs ys : List ℕ) → drop (length xs) (xs ++ ys) ≡ ys
 drop-front [] ys = refl
 drop-front (x ∷ xs) ys = drop-front xs ys
 
--- letters up to a byte that is none
-pub letters-append : (text : List ℕ) (c : ℕ) (rest : List ℕ) → IsText text → is_ascii_alphanumeric c ≡ false → letters_at (text ++ c ∷ rest) ≡ Some (text, c ∷ rest)
-letters-append text c rest h e =
-    let len : prefix_len is_ascii_alphanumeric (text ++ c ∷ rest) ≡ length text = prefix-stops is_ascii_alphanumeric text c rest h.plain e in
-    let some : nat_le 1 (length text) ≡ true = le-leb _ _ h.some in
-    let short : nat_le (length text) 20 ≡ true = le-leb _ _ h.short in
+-- what passes a test, before what begins with nothing that does
+pub run-append : (p : ℕ → Bool) (most : ℕ) (text rest : List ℕ) → 1 ≤ length text → length text ≤ most → list_all p text ≡ true → prefix_len p rest ≡ 0
+    → run_at p most (text ++ rest) ≡ Some (text, rest)
+run-append p most text rest one few h e =
+    let len : prefix_len p (text ++ rest) ≡ length text = prefix-stops p text rest h e in
+    let some : nat_le 1 (length text) ≡ true = le-leb _ _ one in
+    let short : nat_le (length text) most ≡ true = le-leb _ _ few in
     rw (len, some, short, take-front, drop-front) refl
 
--- what was read is letters
-pub letters-is : (bytes text rest : List ℕ) → letters_at bytes ≡ Some (text, rest) → IsText text × (bytes ≡ text ++ rest)
-letters-is bytes text rest h =
-    let len = prefix_len is_ascii_alphanumeric bytes in
-    let tested = if-some (nat_le 1 len && nat_le len 20) (take len bytes, drop len bytes) (text, rest) h in
-    let both = and-both (nat_le 1 len) (nat_le len 20) tested.0 in
+-- What was read passes the test.
+pub record IsRun (p : ℕ → Bool) (most : ℕ) (bytes text rest : List ℕ) : Type 0 where
+  pub some : 1 ≤ length text
+  pub short : length text ≤ most
+  pub plain : list_all p text ≡ true
+  pub form : bytes ≡ text ++ rest
+
+-- what was read is so
+pub run-is : (p : ℕ → Bool) (most : ℕ) (bytes text rest : List ℕ) → run_at p most bytes ≡ Some (text, rest) → IsRun p most bytes text rest
+run-is p most bytes text rest h =
+    let len = prefix_len p bytes in
+    let tested = if-some (nat_le 1 len && nat_le len most) (take len bytes, drop len bytes) (text, rest) h in
+    let both = and-both (nat_le 1 len) (nat_le len most) tested.0 in
     let front : take len bytes ≡ text = ap (λ (p : List ℕ × List ℕ). p.0) tested.1 in
     let back : drop len bytes ≡ rest = ap (λ (p : List ℕ × List ℕ). p.1) tested.1 in
-    let size : length (take len bytes) ≡ len = length-prefix_len is_ascii_alphanumeric bytes in
+    let size : length text ≡ len = ap (λ t. length t) (sym front) ∙ length-prefix_len p bytes in
     let whole : take len bytes ++ drop len bytes ≡ bytes = take-append-drop len bytes in
-    let plain : list_all is_ascii_alphanumeric (take len bytes) ≡ true = prefix-passes is_ascii_alphanumeric bytes in
     let some : 1 ≤ len = leb-true _ _ both.0 in
-    let short : len ≤ 20 = leb-true _ _ both.1 in
-    let cut : IsText (take len bytes) = record { some = rw size some; short = rw size short; plain = plain } in
-    (subst IsText front cut, sym whole ∙ ap (λ t. t ++ drop len bytes) front ∙ ap (λ t. text ++ t) back)
+    let short : len ≤ most = leb-true _ _ both.1 in
+    record {
+      some = rw size some;
+      short = rw size short;
+      plain = ap (λ t. list_all p t) (sym front) ∙ prefix-passes p bytes;
+      form = sym whole ∙ ap (λ t. t ++ drop len bytes) front ∙ ap (λ t. text ++ t) back;
+    }
+
+-- letters before what begins with none
+letters-append : (text rest : List ℕ) → IsText text → prefix_len is_ascii_alphanumeric rest ≡ 0 → letters_at (text ++ rest) ≡ Some (text, rest)
+letters-append text rest h e = run-append is_ascii_alphanumeric 20 text rest h.some h.short h.plain e
+
+-- what was read is letters
+letters-is : (bytes text rest : List ℕ) → letters_at bytes ≡ Some (text, rest) → IsText text × (bytes ≡ text ++ rest)
+letters-is bytes text rest h =
+    let run = run-is is_ascii_alphanumeric 20 bytes text rest h in
+    (record { some = run.some; short = run.short; plain = run.plain }, run.form)
 
 -- a text between its quotes
 pub text-append : (text rest : List ℕ) → IsText text → text_at (quoted text ++ rest) ≡ Some (text, rest)
 text-append text rest h =
-    let letters : letters_at (text ++ 34 ∷ rest) ≡ Some (text, 34 ∷ rest) = letters-append text 34 rest h refl in
+    let letters : letters_at (text ++ 34 ∷ rest) ≡ Some (text, 34 ∷ rest) = letters-append text (34 ∷ rest) h refl in
     let regrouped : (text ++ 34 ∷ []) ++ rest ≡ text ++ 34 ∷ rest = append_assoc text (34 ∷ []) rest in
     rw (regrouped, letters) refl
 

@@ -1,5 +1,5 @@
 -- A script is read as what it asks for, and what is read is what it asks for.
-use Rattle.std.proofs.Common.{◌≡◌, ℕ, ◌-◌, inl, inr, true, List, [], ◌∷◌, ◌++◌, length, take, drop, reverse, codes, decimal, bytes_eq, Option, Some, None, unwrap_or, refl, sym, ap, ap₂, ◌∙◌, subst, arith, append_assoc, append-nil, length-append, take-append-drop}
+use Rattle.std.proofs.Common.{◌≡◌, ℕ, ◌-◌, inl, inr, true, List, [], ◌∷◌, ◌++◌, length, take, drop, reverse, codes, decimal, bytes_eq, Option, Some, None, unwrap_or, refl, sym, ap, ap₂, ◌∙◌, subst, arith, append_assoc, append-nil, length-append, take-append-drop, lit≤}
 use Rattle.std.proofs.lemmas.List.{reverse-append}
 use Rattle.std.proofs.lemmas.Slice.Eq.{bytes_eq-Decides}
 use Rattle.cg_meaning.specs.Tree.{Name, Chronology}
@@ -86,8 +86,8 @@ script-read bytes model_name chronology grid event name h =
     let next = decimal h.younger ++ (codes "\nprint \"" ++ last) in
     let years = decimal h.older ++ (codes " " ++ next) in
     let named : after model_name (model_name ++ (codes "\ngrid " ++ years)) ≡ Some (codes "\ngrid " ++ years) = after-append model_name (codes "\ngrid " ++ years) in
-    let older : number_at years ≡ Some (h.older, codes " " ++ next) = number-append h.older 32 next (omega (arith, h.years.old)) refl in
-    let younger : number_at next ≡ Some (h.younger, codes "\nprint \"" ++ last) = number-append h.younger 10 (codes "print \"" ++ last) (omega (arith, h.years.old, h.years.ordered)) refl in
+    let older : number_at 5 years ≡ Some (h.older, codes " " ++ next) = number-append 5 h.older (codes " " ++ next) (lit≤ tt) (lit≤ tt) (omega (arith, h.years.old)) refl in
+    let younger : number_at 5 next ≡ Some (h.younger, codes "\nprint \"" ++ last) = number-append 5 h.younger (codes "\nprint \"" ++ last) (lit≤ tt) (lit≤ tt) (omega (arith, h.years.old, h.years.ordered)) refl in
     let asked : name_in last ≡ Some name = name-append name h.end h.ended in
     ap (script_at model_name) (h.form ∙ script-parts model_name h.older h.younger name h.end) ∙ rw (named, older, younger, asked) refl
 
@@ -99,9 +99,9 @@ read-script bytes model_name chronology older younger event name h years number 
     passes _ (after (codes "open ") bytes) _ ((older, younger), name) h (λ named word h1.
     passes _ (after model_name named) _ ((older, younger), name) h1 (λ behind model h2.
     passes _ (after (codes "\ngrid ") behind) _ ((older, younger), name) h2 (λ first grid h3.
-    passes _ (number_at first) _ ((older, younger), name) h3 (λ (older', after_older) old h4.
+    passes _ (number_at 5 first) _ ((older, younger), name) h3 (λ (older', after_older) old h4.
     passes _ (after (codes " ") after_older) _ ((older, younger), name) h4 (λ second blank h5.
-    passes _ (number_at second) _ ((older, younger), name) h5 (λ (younger', after_younger) young h6.
+    passes _ (number_at 5 second) _ ((older, younger), name) h5 (λ (younger', after_younger) young h6.
     passes _ (after (codes "\nprint \"") after_younger) _ ((older, younger), name) h6 (λ last print h7.
     passes _ (name_in last) _ ((older, younger), name) h7 (λ name' asked h8.
     let outer = parts (older', younger') (older, younger) name' name h8 in
@@ -110,9 +110,9 @@ read-script bytes model_name chronology older younger event name h years number 
     let is_named : bytes ≡ codes "open " ++ named = after-is (codes "open ") bytes named word in
     let is_behind : named ≡ model_name ++ behind = after-is model_name named behind model in
     let is_first : behind ≡ codes "\ngrid " ++ first = after-is (codes "\ngrid ") behind first grid in
-    let is_older : first ≡ decimal older ++ after_older = (number-is first older' after_older old).0 ∙ ap (λ n. decimal n ++ after_older) inner.0 in
+    let is_older : first ≡ decimal older ++ after_older = (number-is 5 first older' after_older (lit≤ tt) old).0 ∙ ap (λ n. decimal n ++ after_older) inner.0 in
     let is_second : after_older ≡ codes " " ++ second = after-is (codes " ") after_older second blank in
-    let is_younger : second ≡ decimal younger ++ after_younger = (number-is second younger' after_younger young).0 ∙ ap (λ n. decimal n ++ after_younger) inner.1 in
+    let is_younger : second ≡ decimal younger ++ after_younger = (number-is 5 second younger' after_younger (lit≤ tt) young).0 ∙ ap (λ n. decimal n ++ after_younger) inner.1 in
     let is_last : after_younger ≡ codes "\nprint \"" ++ last = after-is (codes "\nprint \"") after_younger last print in
     let is_text : last ≡ (name ++ codes "\"") ++ text.end = text.form ∙ ap (λ n. (n ++ codes "\"") ++ text.end) outer.1 in
     let line_three : second ≡ decimal younger ++ (codes "\nprint \"" ++ ((name ++ codes "\"") ++ text.end)) = is_younger ∙ ap (λ t. decimal younger ++ t) (is_last ∙ ap (λ t. codes "\nprint \"" ++ t) is_text) in

@@ -49,7 +49,7 @@ depth-leaves [] = omega arith
 depth-leaves (l ∷ ls) = omega (arith, depth-leaves ls)
 
 -- so they are within the limits
-pub leaves-within : (name : Name) (ls : List (Name × Dating)) → length ls ≤ 12 → IsWithinLimits (alone name ls)
+pub leaves-within : (name : Name) (ls : List (Name × Dating)) → length ls ≤ 100 → IsWithinLimits (alone name ls)
 leaves-within name ls few = record {
   events = omega (arith, count-leaves ls);
   groups = omega (arith, groups-leaves ls);

@@ -1,5 +1,5 @@
 -- Calendar years: each is read as it is written.
-use Rattle.std.proofs.Common.{◌≡◌, ◌≢◌, ℕ, zero, suc, ◌^◌, ◌<◌, inl, inr, true, false, not, ◌&&◌, ◌==◌, List, [], ◌∷◌, ◌++◌, length, codes, decimal, Option, Some, None, ℤ, pos, negsuc, neg_ℤ, ◌≤ℤ◌, int_le, int_eq, refl, sym, ap, ap₂, ◌∙◌, arith, eqb-true}
+use Rattle.std.proofs.Common.{◌≡◌, ◌≢◌, ℕ, zero, suc, ◌^◌, ◌<◌, inl, inr, true, false, not, ◌&&◌, ◌==◌, List, [], ◌∷◌, ◌++◌, length, codes, decimal, Option, Some, None, ℤ, pos, negsuc, neg_ℤ, ◌≤ℤ◌, int_le, int_eq, refl, sym, ap, ap₂, ◌∙◌, arith, eqb-true, lit≤}
 use Rattle.std.specs.List.{list_all}
 use Rattle.std.specs.Fmt.{signed_decimal}
 use Rattle.std.specs.Char.{is_ascii_digit}
@@ -15,11 +15,11 @@ use Rattle.cg_form.proofs.PieceLemmas.{after-is}
 use Rattle.cg_form.proofs.NumberLemmas.{own, number-append, number-is}
 
 -- tests of whole numbers
-le-true : (x y : ℤ) → x ≤ℤ y → int_le x y ≡ true
+pub le-true : (x y : ℤ) → x ≤ℤ y → int_le x y ≡ true
 le-true x y h = grind (arith, ints)
 
 -- the other way
-true-le : (x y : ℤ) → int_le x y ≡ true → x ≤ℤ y
+pub true-le : (x y : ℤ) → int_le x y ≡ true → x ≤ℤ y
 true-le x y h = grind (arith, ints)
 
 -- and of their equality
@@ -46,11 +46,11 @@ signed-append (pos n) c rest h e =
     let small : n < 100000 = omega (arith, ints, h.2) in
     let wide : n < 2 ^ 64 = omega arith in
     let plain : after (codes "-") (decimal n ++ c ∷ rest) ≡ None = no-minus (decimal n) (c ∷ rest) (digits_decimal own n wide) (decimal_nonempty n wide) in
-    let number : number_at (decimal n ++ c ∷ rest) ≡ Some (n, c ∷ rest) = number-append n c rest small e in
+    let number : number_at 5 (decimal n ++ c ∷ rest) ≡ Some (n, c ∷ rest) = number-append 5 n (c ∷ rest) (lit≤ tt) (lit≤ tt) small (rw e refl) in
     rw (plain, number) refl
 signed-append (negsuc n) c rest h e =
     let small : suc n < 100000 = omega (arith, ints, h.1) in
-    let number : number_at (decimal (suc n) ++ c ∷ rest) ≡ Some (suc n, c ∷ rest) = number-append (suc n) c rest small e in
+    let number : number_at 5 (decimal (suc n) ++ c ∷ rest) ≡ Some (suc n, c ∷ rest) = number-append 5 (suc n) (c ∷ rest) (lit≤ tt) (lit≤ tt) small (rw e refl) in
     rw number refl
 
 -- a minus and digits are written so
@@ -63,17 +63,17 @@ pub signed-is : (bytes : List ℕ) (year : ℤ) (rest : List ℕ) → signed_at 
 signed-is bytes year rest h some = go (after (codes "-") bytes) refl h
   where
     go : (o : Option (List ℕ)) → after (codes "-") bytes ≡ o → signed_from o bytes ≡ Some (year, rest) → bytes ≡ signed_decimal year ++ rest
-    go None e h = passes _ (number_at bytes) _ (year, rest) h (λ (n, behind) read h1.
+    go None e h = passes _ (number_at 5 bytes) _ (year, rest) h (λ (n, behind) read h1.
         let pair = parts (pos n) year behind rest h1 in
         let is_year : pos n ≡ year = pair.0 in
         let is_rest : behind ≡ rest = pair.1 in
-        let written : bytes ≡ signed_decimal (pos n) ++ behind = (number-is bytes n behind read).0 in
+        let written : bytes ≡ signed_decimal (pos n) ++ behind = (number-is 5 bytes n behind (lit≤ tt) read).0 in
         written ∙ ap₂ (λ (y : ℤ) (r : List ℕ). signed_decimal y ++ r) is_year is_rest)
-    go (Some behind) e h = passes _ (number_at behind) _ (year, rest) h (λ (n, others) read h1.
+    go (Some behind) e h = passes _ (number_at 5 behind) _ (year, rest) h (λ (n, others) read h1.
         let pair = parts (neg_ℤ (pos n)) year others rest h1 in
         let is_year : neg_ℤ (pos n) ≡ year = pair.0 in
         let is_rest : others ≡ rest = pair.1 in
-        let written : behind ≡ decimal n ++ others = (number-is behind n others read).0 in
+        let written : behind ≡ decimal n ++ others = (number-is 5 behind n others (lit≤ tt) read).0 in
         let begins : bytes ≡ 45 ∷ behind = after-is (codes "-") bytes behind e in
         let signed : signed_decimal (neg_ℤ (pos n)) ≡ 45 ∷ decimal n = minus n (λ z. some (sym is_year ∙ z)) in
         let so_far : bytes ≡ signed_decimal (neg_ℤ (pos n)) ++ others = begins ∙ ap (λ t. 45 ∷ t) written ∙ ap (λ t. t ++ others) (sym signed) in

@@ -13,5 +13,5 @@ leaf_of event = (event.name, dating_of event.dating)
 -- A Sequence of this name and these leaves is within the limits of a model.
 pub record CanBeBuilt (name : spec.Name) (members : List (spec.Name × spec.Dating)) : Type 0 where
   pub short : length name ≤ 120
-  pub few : length members ≤ 12
+  pub few : length members ≤ 100
   pub ranged : AreInRange (leaves members)

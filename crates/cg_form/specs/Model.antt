@@ -1,4 +1,4 @@
--- The plain Form of a model file: one Sequence of at most twelve dates, without blanks. chron's own.
+-- The plain Form of a model file: one Sequence of at most a hundred dates, without blanks. chron's own.
 use Rattle.std.specs.Prelude.{◌≡◌, ◌≢◌, ℕ, ◌≤◌, List, [], ◌++◌, length, map, All, AllPairs, codes, Option, Some, None, ℤ}
 use Rattle.std.specs.List.{flat_map}
 use Rattle.std.specs.Fmt.{signed_decimal}
@@ -66,7 +66,7 @@ pub record IsModel (bytes : List ℕ) (chronology : Chronology) : Type 0 where
   pub end : List ℕ
   pub text : IsTitle named
   pub each : All IsMember members
-  pub few : length members ≤ 12
+  pub few : length members ≤ 100
   pub distinct : AllPairs (λ a b. a ≢ b) (map (λ member. member.name) members)
   pub ended : IsEnd end
   pub form : bytes ≡ codes "Sequence(" ++ title named ++ codes "){" ++ flat_map text_of members ++ codes "};" ++ end

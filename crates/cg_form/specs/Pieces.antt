@@ -16,11 +16,15 @@ after [] bytes = Some bytes
 after (c ∷ word) [] = None
 after (c ∷ word) (b ∷ bytes) = if b == c then after word bytes else None
 
+-- the bytes that pass a test, up to the first that does not: at least one and so many at most
+abbrev pub run_at : (ℕ → Bool) → ℕ → List ℕ → Option (List ℕ × List ℕ)
+run_at passes most bytes =
+    let len = prefix_len passes bytes in
+    if nat_le 1 len && nat_le len most then Some (take len bytes, drop len bytes) else None
+
 -- 1 to 20 letters or digits, with no other behind them
 abbrev pub letters_at : List ℕ → Option (List ℕ × List ℕ)
-letters_at bytes =
-    let len = prefix_len is_ascii_alphanumeric bytes in
-    if nat_le 1 len && nat_le len 20 then Some (take len bytes, drop len bytes) else None
+letters_at bytes = run_at is_ascii_alphanumeric 20 bytes
 
 -- the same between two quotes
 abbrev pub text_at : List ℕ → Option (Name × List ℕ)
@@ -32,15 +36,15 @@ text_at bytes =
 abbrev pub number_of : List ℕ → ℕ
 number_of digits = fold (λ n c. n * 10 + (c - 48)) 0 digits
 
--- 1 to 5 digits, and no zero before another digit
-abbrev pub is_plain : List ℕ → Bool
-is_plain digits = nat_le 1 (length digits) && nat_le (length digits) 5 && (length digits == 1 || not (slice_index digits 0 == 48))
+-- at least one digit and so many at most, and no zero before another digit
+abbrev pub is_plain : ℕ → List ℕ → Bool
+is_plain most digits = nat_le 1 (length digits) && nat_le (length digits) most && (length digits == 1 || not (slice_index digits 0 == 48))
 
 -- a number written so, with no other digit behind it
-abbrev pub number_at : List ℕ → Option (ℕ × List ℕ)
-number_at bytes =
+abbrev pub number_at : ℕ → List ℕ → Option (ℕ × List ℕ)
+number_at most bytes =
     let len = prefix_len is_ascii_digit bytes in
-    if is_plain (take len bytes) then Some (number_of (take len bytes), drop len bytes) else None
+    if is_plain most (take len bytes) then Some (number_of (take len bytes), drop len bytes) else None
 
 -- what stands before this word at the end
 abbrev pub before : List ℕ → List ℕ → Option (List ℕ)

@@ -8,8 +8,8 @@ use Rattle.cg_form.specs.Pieces.{◌>>=◌, after, before, text_at, number_at}
 
 -- a whole number: the one behind a minus, where one stands, or the one in front
 abbrev pub signed_from : Option (List ℕ) → List ℕ → Option (ℤ × List ℕ)
-signed_from None bytes = number_at bytes >>= λ number. Some (pos number.0, number.1)
-signed_from (Some behind) bytes = number_at behind >>= λ number. Some (neg_ℤ (pos number.0), number.1)
+signed_from None bytes = number_at 5 bytes >>= λ number. Some (pos number.0, number.1)
+signed_from (Some behind) bytes = number_at 5 behind >>= λ number. Some (neg_ℤ (pos number.0), number.1)
 
 -- a whole number with a minus or without
 abbrev pub signed_at : List ℕ → Option (ℤ × List ℕ)
@@ -67,7 +67,7 @@ are_distinct (leaf ∷ leaves) = not (list_any (λ other. bytes_eq leaf.0 other.
 -- the name of the Sequence and its leaves
 unfoldable pub model_at : List ℕ → Option (Name × List (Name × Dating))
 model_at bytes =
-    head_at bytes >>= λ head. members_at 12 [] head.1 >>= λ body.
+    head_at bytes >>= λ head. members_at 100 [] head.1 >>= λ body.
     if is_tail body.1 && are_distinct body.0 then Some (head.0, body.0) else None
 
 -- a name up to its quote at the end of a script
@@ -78,6 +78,6 @@ name_in bytes = before (codes "\"") (unwrap_or (before (codes "\n") bytes) bytes
 unfoldable pub script_at : List ℕ → List ℕ → Option ((ℕ × ℕ) × Name)
 script_at model_name bytes =
     after (codes "open ") bytes >>= λ named. after model_name named >>= λ behind.
-    after (codes "\ngrid ") behind >>= λ years. number_at years >>= λ older.
-    after (codes " ") older.1 >>= λ next. number_at next >>= λ younger.
+    after (codes "\ngrid ") behind >>= λ years. number_at 5 years >>= λ older.
+    after (codes " ") older.1 >>= λ next. number_at 5 next >>= λ younger.
     after (codes "\nprint \"") younger.1 >>= λ last. name_in last >>= λ name. Some ((older.0, younger.0), name)

@@ -6,23 +6,26 @@ use crate::piece::{after, number_at, text_at};
 use cg_model::Dating;
 use cg_num::Year;
 
-/// A whole number with a minus or without, and what comes after it.
-fn signed_at(bytes: &[u8]) -> Option<(i64, &[u8])>
+const YEAR_DIGITS: usize = 5;
+
+/// A whole number of 1 to 5 digits with a minus or without, and what comes after it.
+pub fn signed_at(bytes: &[u8]) -> Option<(i64, &[u8])>
     ensures { option_map (λ number. (number.0, number.1.now)) result ≡ signed_at bytes.now }
 {
     match after(bytes, b"-") {
         Some(behind) => {
-            let (number, rest) = number_at(behind)?;
+            let (number, rest) = number_at(behind, YEAR_DIGITS)?;
             Some((-i64::from(number), rest))
         }
         None => {
-            let (number, rest) = number_at(bytes)?;
+            let (number, rest) = number_at(bytes, YEAR_DIGITS)?;
             Some((i64::from(number), rest))
         }
     }
 }
 
-fn exact_year(year: i64) -> Option<Dating>
+/// The dating of a calendar year. `None` exactly where there is no such year from 58,051 BC to AD 2950.
+pub fn exact_year(year: i64) -> Option<Dating>
     ensures { option_map dating_of result ≡ exact_year year }
 {
     let year = Year::of_calendar(year)?;

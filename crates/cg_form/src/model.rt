@@ -47,7 +47,7 @@ fn model_of(alloc: Global, title: &str, events: Vec<Event>) -> Result<ModelTree,
 
 /// The model that a file in the plain Form says.
 ///
-/// The Form is one Sequence of at most twelve members, each `Date("N");` or `C_Date("N",Y);`, without a blank.
+/// The Form is one Sequence of at most a hundred members, each `Date("N");` or `C_Date("N",Y);`, without a blank.
 pub fn read_model(alloc: Global, bytes: &[u8]) -> Result<ModelTree, FormFault>
     ensures ok { IfOk result (λ model. IsModel bytes.now model) }
     ensures form { result ≡ Err FormFault.Form → HasNoModel bytes.now }

@@ -58,9 +58,9 @@ pub fn text_at(bytes: &[u8]) -> Option<(&str, &[u8])>
 
 /// The number that digits write.
 fn number_of(digits: &[u8]) -> u32
-    requires { length digits.now ≤ 5 }
+    requires { length digits.now ≤ 7 }
     ensures value { result ≡ number_of digits.now }
-    ensures bound { result < 23 * 10 ^ 5 }
+    ensures bound { result < 23 * 10 ^ 7 }
 {
     let mut number = 0;
     for digit in digits {
@@ -69,22 +69,25 @@ fn number_of(digits: &[u8]) -> u32
     number
 }
 
-fn is_plain(digits: &[u8]) -> bool
-    ensures { result ≡ is_plain digits.now }
+fn is_plain(digits: &[u8], most: usize) -> bool
+    requires { 1 ≤ most }
+    ensures { result ≡ is_plain most digits.now }
 {
     match digits {
         [] => false,
         [_] => true,
-        [first, ..] => digits.len() <= 5 && *first != b'0',
+        [first, ..] => digits.len() <= most && *first != b'0',
     }
 }
 
-/// A whole number of 1 to 5 digits, and what comes after it.
-pub fn number_at(bytes: &[u8]) -> Option<(u32, &[u8])>
-    ensures { option_map (λ number. (number.0, number.1.now)) result ≡ number_at bytes.now }
+/// A whole number of so many digits at most, and what comes after it. No zero stands before another digit.
+pub fn number_at(bytes: &[u8], most: usize) -> Option<(u32, &[u8])>
+    requires some { 1 ≤ most }
+    requires few { most ≤ 7 }
+    ensures { option_map (λ number. (number.0, number.1.now)) result ≡ number_at most bytes.now }
 {
     let (digits, rest) = bytes.split_at(digits_len(bytes));
-    if is_plain(digits) {
+    if is_plain(digits, most) {
         Some((number_of(digits), rest))
     } else {
         None

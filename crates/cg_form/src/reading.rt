@@ -11,7 +11,7 @@ use cg_model::{Dating, Name, NameFault};
 use cg_num::NoMemory;
 use std::alloc::Global;
 
-const MAX_MEMBERS: usize = 12;
+const MAX_MEMBERS: usize = 100;
 
 /// A member of the Sequence, an event.
 #[derive(Drop)]
@@ -47,10 +47,10 @@ fn is_closed(bytes: &[u8]) -> bool
     matches!(bytes.first(), Some(b'}'))
 }
 
-/// Members up to a closing brace or to the twelfth, and what comes after them.
+/// Members up to a closing brace or to the hundredth, and what comes after them.
 fn members_at(alloc: Global, bytes: &[u8]) -> Result<(Vec<Event>, &[u8]), FormFault>
-    ensures ok { IfOk result (λ read. members_at 12 [] bytes.now ≡ Some (map leaf_of read.0.items, read.1.now)) }
-    ensures form { result ≡ Err FormFault.Form → members_at 12 [] bytes.now ≡ None }
+    ensures ok { IfOk result (λ read. members_at 100 [] bytes.now ≡ Some (map leaf_of read.0.items, read.1.now)) }
+    ensures form { result ≡ Err FormFault.Form → members_at 100 [] bytes.now ≡ None }
 {
     let mut events = Vec::new(alloc);
     let mut rest = bytes;

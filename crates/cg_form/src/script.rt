@@ -35,8 +35,8 @@ fn script_at<'a>(bytes: &'a [u8], model_name: &[u8]) -> Option<(u32, u32, &'a [u
     ensures { option_map (λ read. ((read.0, read.1), read.2.now)) result ≡ script_at model_name.now bytes.now }
 {
     let rest = after(after(bytes, b"open ")?, model_name)?;
-    let (older, rest) = number_at(after(rest, b"\ngrid ")?)?;
-    let (younger, rest) = number_at(after(rest, b" ")?)?;
+    let (older, rest) = number_at(after(rest, b"\ngrid ")?, 5)?;
+    let (younger, rest) = number_at(after(rest, b" ")?, 5)?;
     let name = name_in(after(rest, b"\nprint \"")?)?;
     Some((older, younger, name))
 }

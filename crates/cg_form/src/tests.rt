@@ -1,6 +1,7 @@
 use crate::*;
 use cg_model::{Dating, ModelTree};
 use std::alloc::Global;
+use std::fmt::Write;
 use std::test::Fail;
 
 // how many events there are, or `None` for a file that is not in the Form
@@ -51,14 +52,22 @@ fn model_files(rt: HostRuntime) -> Result<(), Fail> {
     Ok(())
 }
 
+// so many members, with the names N0, N1 and so on
+fn dates(alloc: Global, count: usize) -> Result<String, Fail> {
+    let mut text = String::new(alloc);
+    for number in 0..count {
+        write!(text, "Date(\"N{number}\");")?;
+    }
+    Ok(text)
+}
+
 #[test]
 fn names_and_numbers_of_members(rt: HostRuntime) -> Result<(), Fail> {
-    let twelve =
-        "Date(\"A\");Date(\"B\");Date(\"C\");Date(\"D\");Date(\"E\");Date(\"F\");Date(\"G\");Date(\"H\");Date(\"I\");Date(\"J\");Date(\"K\");Date(\"L\");";
-    let thirteen = format!(in rt.alloc(); "{twelve}Date(\"M\");")?;
+    let hundred = dates(rt.alloc(), 100)?;
+    let more = dates(rt.alloc(), 101)?;
     let cases = [
-        (twelve, Some(12)),
-        (thirteen.as_str(), None),
+        (hundred.as_str(), Some(100)),
+        (more.as_str(), None),
         ("Date(\"abcdefghijklmnopqrst\");", Some(1)),
         ("Date(\"abcdefghijklmnopqrstu\");", None),
         ("Date(\"A\");Date(\"a\");", Some(2)),
@@ -176,5 +185,55 @@ fn an_event_named_as_its_sequence(rt: HostRuntime) -> Result<(), Fail> {
     let model = read_model(rt.alloc(), b"Sequence(\"A\"){Date(\"B\");Date(\"A\");};")?;
     let script = "open main\ngrid 5 0\nprint \"A\"\n";
     assert_eq!(rt; asked(rt.alloc(), &model, script)?, Some((5, 6, 1)));
+    Ok(())
+}
+
+#[test]
+fn pieces(rt: HostRuntime) -> Result<(), Fail> {
+    assert_eq!(rt; after(b"undo\n", b"undo"), Some(b"\n".as_slice()));
+    assert_eq!(rt; after(b"und", b"undo"), None);
+    assert_eq!(rt; text_at(b"\"A1\" x"), Some(("A1", b" x".as_slice())));
+    assert_eq!(rt; text_at(b"A1"), None);
+    let numbers = [
+        ("1234567", 7, Some(1_234_567)),
+        ("12345678", 7, None),
+        ("100000", 5, None),
+        ("0", 1, Some(0)),
+        ("00", 5, None),
+        ("", 5, None),
+    ];
+    for (digits, most, want) in numbers {
+        let text = format!(in rt.alloc(); "{digits};")?;
+        let read = number_at(text.as_bytes(), most).map(|number| number.0);
+        assert_eq!(rt; read, want, "{digits}");
+    }
+    assert_eq!(rt; signed_at(b"-50)"), Some((-50, b")".as_slice())));
+    assert_eq!(rt; signed_at(b"--50)"), None);
+    Ok(())
+}
+
+#[test]
+fn pieces_of_members(rt: HostRuntime) -> Result<(), Fail> {
+    let years = [
+        (-58_052, None),
+        (-58_051, Some(60_000)),
+        (0, None),
+        (1, Some(1_949)),
+    ];
+    for (year, want) in years {
+        let read = match exact_year(year) {
+            Some(dating) => year_of(&dating),
+            None => None,
+        };
+        assert_eq!(rt; read, want, "{year}");
+    }
+    let Some((name, dating, rest)) = member_at(b"C_Date(\"A\",-1);x") else {
+        return Err(Fail::from("no member"));
+    };
+    assert_eq!(rt; name, "A");
+    assert_eq!(rt; year_of(&dating), Some(1_950));
+    assert_eq!(rt; rest, b"x".as_slice());
+    let name = name_of(rt.alloc(), "A")?;
+    assert_eq!(rt; name.text(), "A");
     Ok(())
 }

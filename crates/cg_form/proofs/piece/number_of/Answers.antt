@@ -2,7 +2,7 @@ use Rattle.std.proofs.Common.{ℕ, ◌≤◌, ◌^◌, lit<, arith}
 use Rattle.std.proofs.Math.Nat.{pow-le-pow_right}
 use Rattle.cg_form.proofs.piece.number_of.Goals as goal
 
-ten : (i : ℕ) → i ≤ 5 → 10 ^ i ≤ 10 ^ 5
+ten : (i : ℕ) → i ≤ 7 → 10 ^ i ≤ 10 ^ 7
 ten i h = pow-le-pow_right {n = 10} (lit< tt) h
 
 pub overflow_mul-number : goal.overflow_mul-number

@@ -4,4 +4,4 @@ use Rattle.cg_form.specs.Event.{leaf_of}
 use Rattle.cg_form.proofs.reading.members_at.Given as goal
 
 abbrev pub invariant-loop : goal.invariant-loop
-invariant-loop l = members_at (12 - l.counter) (map leaf_of l.events.items) l.rest ≡ members_at 12 [] l.bytes
+invariant-loop l = members_at (100 - l.counter) (map leaf_of l.events.items) l.rest ≡ members_at 100 [] l.bytes

@@ -1,0 +1,199 @@
+-- Commands: each is read as it stands, at the end of its line.
+use Rattle.std.proofs.Common.{◌≡◌, ℕ, List, [], ◌∷◌, ◌++◌, codes, Option, Some, None, ℤ, refl, sym, ap, ap₂, ◌∙◌, subst, subst₂, lit≤, append_assoc}
+use Rattle.std.specs.List.{prefix_len}
+use Rattle.std.specs.Char.{is_ascii_digit}
+use Rattle.std.specs.Fmt.{signed_decimal}
+use Rattle.cg_meaning.specs.Tree.{Name, Dating, Leaf, Boundary, Group}
+use Rattle.cg_form.specs.Text.{IsText, quoted}
+use Rattle.cg_form.specs.Pieces.{after, text_at, number_at}
+use Rattle.cg_form.specs.Model as form
+use Rattle.cg_form.specs.Reading.{member_at}
+use Rattle.cg_form.proofs.StepLemmas.{passes, parts, none-some}
+use Rattle.cg_form.proofs.PieceLemmas.{after-is, text-append, text-is}
+use Rattle.cg_form.proofs.NumberLemmas.{number-append, number-is}
+use Rattle.cg_form.proofs.MemberLemmas.{statement-append, member-is}
+use Rattle.cg_sharing.specs.Edit.{Set, Add}
+use Rattle.cg_sharing.specs.Command.{Command, Grid, Open, Take, Undo, Change, Commit, Print}
+use Rattle.cg_script.specs.Form.{is_name_byte, IsStated, year_in, nameless, IsCommand, text_of_command}
+use Rattle.cg_script.specs.Reading.{name_at, year_at, nameless_at, grid_at, open_at, take_at, undo_at, set_at, add_at, commit_at, print_at, behind_or, change_at, command_at}
+use Rattle.cg_script.proofs.NameLemmas.{name-append, name-is}
+use Rattle.cg_script.proofs.StatementLemmas.{year-append, year-is, stated-year, year-stated, nameless-append, nameless-is}
+
+-- What stands behind a command: nothing, or the end of its line.
+pub data IsEndAt : List ℕ → Type 0 where
+  at_end : IsEndAt []
+  at_line : (rest : List ℕ) → IsEndAt (10 ∷ rest)
+
+-- no byte of a name or a number stands there
+no-name : (rest : List ℕ) → IsEndAt rest → prefix_len is_name_byte rest ≡ 0
+no-name rest at_end = refl
+no-name rest (at_line more) = refl
+
+no-digit : (rest : List ℕ) → IsEndAt rest → prefix_len is_ascii_digit rest ≡ 0
+no-digit rest at_end = refl
+no-digit rest (at_line more) = refl
+
+-- three parts and what stands behind them
+parted : (a b c d rest : List ℕ) → (((a ++ b) ++ c) ++ d) ++ rest ≡ a ++ (b ++ (c ++ (d ++ rest)))
+parted a b c d rest = simp append_assoc
+
+-- a grid
+grid-append : (older younger : ℤ) (rest : List ℕ) → IsCommand (Grid older younger) → IsEndAt rest → grid_at (signed_decimal older ++ (codes " " ++ (signed_decimal younger ++ rest))) ≡ Some (Grid older younger, rest)
+grid-append older younger rest h e =
+    let first = year-append older (codes " " ++ (signed_decimal younger ++ rest)) h.0 refl in
+    let second = year-append younger rest h.1 (no-digit rest e) in
+    rw (first, second) refl
+
+-- a change of a dating
+set-append : (event : Name) (dating : Dating) (rest : List ℕ) → IsCommand (Change (Set event dating)) → set_at (quoted event ++ (codes " " ++ (nameless (year_in dating) ++ rest))) ≡ Some (Change (Set event dating), rest)
+set-append event dating rest h =
+    let named = text-append event (codes " " ++ (nameless (year_in dating) ++ rest)) h.0 in
+    let said = nameless-append dating rest h.1 in
+    rw (named, said) refl
+
+-- a new member
+add-append : (group name : Name) (dating : Dating) (rest : List ℕ) → IsCommand (Change (Add group (Leaf name dating)))
+    → add_at (quoted group ++ (codes " " ++ (form.statement name (year_in dating) ++ rest))) ≡ Some (Change (Add group (Leaf name dating)), rest)
+add-append group name dating rest h =
+    let named = text-append group (codes " " ++ (form.statement name (year_in dating) ++ rest)) h.0 in
+    let years = stated-year dating (h.1).1 in
+    let said : member_at (form.statement name (year_in dating) ++ rest) ≡ Some ((name, dating), rest) =
+    statement-append name (year_in dating) rest (h.1).0 years.0 ∙ ap (λ d. Some ((name, d), rest)) years.1 in
+    rw (named, said) refl
+
+-- a command is read as it stands
+pub command-append : (command : Command) (rest : List ℕ) → IsCommand command → IsEndAt rest → command_at (text_of_command command ++ rest) ≡ Some (command, rest)
+unfolding command_at change_at
+command-append (Grid older younger) rest h e =
+    ap command_at (parted (codes "grid ") (signed_decimal older) (codes " ") (signed_decimal younger) rest) ∙ grid-append older younger rest h e
+command-append (Open name) rest h e = rw (name-append name rest h (no-name rest e)) refl
+command-append (Take version) rest h e = rw (number-append 7 version rest (lit≤ tt) (lit≤ tt) h (no-digit rest e)) refl
+command-append Undo rest h e = refl
+command-append (Change (Set event dating)) rest h e =
+    ap command_at (parted (codes "set ") (quoted event) (codes " ") (nameless (year_in dating)) rest) ∙ set-append event dating rest h
+command-append (Change (Add group (Leaf name dating))) rest h e =
+    ap command_at (parted (codes "add ") (quoted group) (codes " ") (form.statement name (year_in dating)) rest) ∙ add-append group name dating rest h
+command-append (Change (Add group (Boundary name))) rest h e = absurd h.1
+command-append (Change (Add group (Group kind name ts))) rest h e = absurd h.1
+command-append (Commit name) rest h e = rw (name-append name rest h (no-name rest e)) refl
+command-append (Print event) rest h e = rw (text-append event rest h) refl
+
+-- What was read is a command as it stands.
+pub record IsCommandAt (bytes : List ℕ) (command : Command) (rest : List ℕ) : Type 0 where
+  pub good : IsCommand command
+  pub form_is : bytes ≡ text_of_command command ++ rest
+
+-- a command is read in one of two ways
+branch : (G : Type 0) (o : Option (List ℕ)) (read : List ℕ → Option (Command × List ℕ)) (other : Option (Command × List ℕ)) (y : Command × List ℕ) → behind_or o read other ≡ Some y
+    → ((behind : List ℕ) → o ≡ Some behind → read behind ≡ Some y → G) → (other ≡ Some y → G) → G
+branch G (Some behind) read other y h first next = first behind refl h
+branch G None read other y h first next = next h
+
+-- what was read is a grid
+grid-is : (bytes behind : List ℕ) (command : Command) (rest : List ℕ) → bytes ≡ codes "grid " ++ behind → grid_at behind ≡ Some (command, rest) → IsCommandAt bytes command rest
+grid-is bytes behind command rest begins h =
+    passes _ (year_at behind) _ (command, rest) h (λ (older, after_older) old h1.
+    passes _ (after (codes " ") after_older) _ (command, rest) h1 (λ next blank h2.
+    passes _ (year_at next) _ (command, rest) h2 (λ (younger, others) young h3.
+    let pair = parts (Grid older younger) command others rest h3 in
+    let first = year-is behind older after_older old in
+    let second = year-is next younger others young in
+    let between : after_older ≡ codes " " ++ next = after-is (codes " ") after_older next blank in
+    let whole : behind ≡ signed_decimal older ++ (codes " " ++ (signed_decimal younger ++ others)) = first.1 ∙ ap (λ t. signed_decimal older ++ t) (between ∙ ap (λ t. codes " " ++ t) second.1) in
+    subst₂ (IsCommandAt bytes) pair.0 pair.1 (record {
+      good = (first.0, second.0);
+      form_is = begins ∙ ap (λ t. codes "grid " ++ t) whole ∙ sym (parted (codes "grid ") (signed_decimal older) (codes " ") (signed_decimal younger) others);
+    }))))
+
+-- a model by its name, opened or committed
+open-is : (bytes behind : List ℕ) (command : Command) (rest : List ℕ) → bytes ≡ codes "open " ++ behind → open_at behind ≡ Some (command, rest) → IsCommandAt bytes command rest
+open-is bytes behind command rest begins h =
+    passes _ (name_at behind) _ (command, rest) h (λ (name, others) read h1.
+    let pair = parts (Open name) command others rest h1 in
+    let named = name-is behind name others read in
+    subst₂ (IsCommandAt bytes) pair.0 pair.1 (record { good = named.0; form_is = begins ∙ ap (λ t. codes "open " ++ t) named.1 }))
+
+commit-is : (bytes behind : List ℕ) (command : Command) (rest : List ℕ) → bytes ≡ codes "commit " ++ behind → commit_at behind ≡ Some (command, rest) → IsCommandAt bytes command rest
+commit-is bytes behind command rest begins h =
+    passes _ (name_at behind) _ (command, rest) h (λ (name, others) read h1.
+    let pair = parts (Commit name) command others rest h1 in
+    let named = name-is behind name others read in
+    subst₂ (IsCommandAt bytes) pair.0 pair.1 (record { good = named.0; form_is = begins ∙ ap (λ t. codes "commit " ++ t) named.1 }))
+
+-- a version by its number
+take-is : (bytes behind : List ℕ) (command : Command) (rest : List ℕ) → bytes ≡ codes "take v" ++ behind → take_at behind ≡ Some (command, rest) → IsCommandAt bytes command rest
+take-is bytes behind command rest begins h =
+    passes _ (number_at 7 behind) _ (command, rest) h (λ (version, others) read h1.
+    let pair = parts (Take version) command others rest h1 in
+    let number = number-is 7 behind version others (lit≤ tt) read in
+    subst₂ (IsCommandAt bytes) pair.0 pair.1 (record { good = number.1; form_is = begins ∙ ap (λ t. codes "take v" ++ t) number.0 }))
+
+undo-is : (bytes behind : List ℕ) (command : Command) (rest : List ℕ) → bytes ≡ codes "undo" ++ behind → undo_at behind ≡ Some (command, rest) → IsCommandAt bytes command rest
+undo-is bytes behind command rest begins h =
+    let pair = parts Undo command behind rest h in
+    subst₂ (IsCommandAt bytes) pair.0 pair.1 (record { good = tt; form_is = begins })
+
+-- a change of a dating
+set-is : (bytes behind : List ℕ) (command : Command) (rest : List ℕ) → bytes ≡ codes "set " ++ behind → set_at behind ≡ Some (command, rest) → IsCommandAt bytes command rest
+set-is bytes behind command rest begins h =
+    passes _ (text_at behind) _ (command, rest) h (λ (event, after_event) named h1.
+    passes _ (after (codes " ") after_event) _ (command, rest) h1 (λ next blank h2.
+    passes _ (nameless_at next) _ (command, rest) h2 (λ (dating, others) said h3.
+    let pair = parts (Change (Set event dating)) command others rest h3 in
+    let first = text-is behind event after_event named in
+    let second = nameless-is next dating others said in
+    let between : after_event ≡ codes " " ++ next = after-is (codes " ") after_event next blank in
+    let whole : behind ≡ quoted event ++ (codes " " ++ (nameless (year_in dating) ++ others)) = first.1 ∙ ap (λ t. quoted event ++ t) (between ∙ ap (λ t. codes " " ++ t) second.1) in
+    subst₂ (IsCommandAt bytes) pair.0 pair.1 (record {
+      good = (first.0, second.0);
+      form_is = begins ∙ ap (λ t. codes "set " ++ t) whole ∙ sym (parted (codes "set ") (quoted event) (codes " ") (nameless (year_in dating)) others);
+    }))))
+
+-- a new member
+add-is : (bytes behind : List ℕ) (command : Command) (rest : List ℕ) → bytes ≡ codes "add " ++ behind → add_at behind ≡ Some (command, rest) → IsCommandAt bytes command rest
+add-is bytes behind command rest begins h =
+    passes _ (text_at behind) _ (command, rest) h (λ (group, after_group) named h1.
+    passes _ (after (codes " ") after_group) _ (command, rest) h1 (λ next blank h2.
+    passes _ (member_at next) _ (command, rest) h2 (λ (leaf, others) said h3.
+    let pair = parts (Change (Add group (Leaf leaf.0 leaf.1))) command others rest h3 in
+    let first = text-is behind group after_group named in
+    let member = member-is next leaf others said in
+    let years = year-stated member.member.year member.good.year in
+    let between : after_group ≡ codes " " ++ next = after-is (codes " ") after_group next blank in
+    let is_name : member.member.name ≡ leaf.0 = ap (λ (l : Name × Dating). l.0) member.says in
+    let is_dating : form.dating_of member.member.year ≡ leaf.1 = ap (λ (l : Name × Dating). l.1) member.says in
+    let is_year : member.member.year ≡ year_in leaf.1 = sym years.1 ∙ ap year_in is_dating in
+    let second : next ≡ form.statement leaf.0 (year_in leaf.1) ++ others = member.form ∙ ap₂ (λ (n : Name) (y : Option ℤ). form.statement n y ++ others) is_name is_year in
+    let whole : behind ≡ quoted group ++ (codes " " ++ (form.statement leaf.0 (year_in leaf.1) ++ others)) = first.1 ∙ ap (λ t. quoted group ++ t) (between ∙ ap (λ t. codes " " ++ t) second) in
+    subst₂ (IsCommandAt bytes) pair.0 pair.1 (record {
+      good = (first.0, (subst IsText is_name member.good.text, subst IsStated is_dating years.0));
+      form_is = begins ∙ ap (λ t. codes "add " ++ t) whole ∙ sym (parted (codes "add ") (quoted group) (codes " ") (form.statement leaf.0 (year_in leaf.1)) others);
+    }))))
+
+-- a print
+print-is : (bytes behind : List ℕ) (command : Command) (rest : List ℕ) → bytes ≡ codes "print " ++ behind → print_at behind ≡ Some (command, rest) → IsCommandAt bytes command rest
+print-is bytes behind command rest begins h =
+    passes _ (text_at behind) _ (command, rest) h (λ (event, others) read h1.
+    let pair = parts (Print event) command others rest h1 in
+    let named = text-is behind event others read in
+    subst₂ (IsCommandAt bytes) pair.0 pair.1 (record { good = named.0; form_is = begins ∙ ap (λ t. codes "print " ++ t) named.1 }))
+
+-- what was read is a change, a commit or a print
+change-is : (bytes : List ℕ) (command : Command) (rest : List ℕ) → change_at bytes ≡ Some (command, rest) → IsCommandAt bytes command rest
+unfolding change_at
+change-is bytes command rest h =
+    branch _ (after (codes "set ") bytes) set_at _ (command, rest) h (λ behind word. set-is bytes behind command rest (after-is (codes "set ") bytes behind word)) (λ h1.
+    branch _ (after (codes "add ") bytes) add_at _ (command, rest) h1 (λ behind word. add-is bytes behind command rest (after-is (codes "add ") bytes behind word)) (λ h2.
+    branch _ (after (codes "commit ") bytes) commit_at _ (command, rest) h2 (λ behind word. commit-is bytes behind command rest (after-is (codes "commit ") bytes behind word)) (λ h3.
+    branch _ (after (codes "print ") bytes) print_at _ (command, rest) h3 (λ behind word. print-is bytes behind command rest (after-is (codes "print ") bytes behind word)) (λ h4.
+    absurd (none-some _ h4)))))
+
+-- what was read is a command
+pub command-is : (bytes : List ℕ) (command : Command) (rest : List ℕ) → command_at bytes ≡ Some (command, rest) → IsCommandAt bytes command rest
+unfolding command_at
+command-is bytes command rest h =
+    branch _ (after (codes "grid ") bytes) grid_at _ (command, rest) h (λ behind word. grid-is bytes behind command rest (after-is (codes "grid ") bytes behind word)) (λ h1.
+    branch _ (after (codes "open ") bytes) open_at _ (command, rest) h1 (λ behind word. open-is bytes behind command rest (after-is (codes "open ") bytes behind word)) (λ h2.
+    branch _ (after (codes "take v") bytes) take_at _ (command, rest) h2 (λ behind word. take-is bytes behind command rest (after-is (codes "take v") bytes behind word)) (λ h3.
+    branch _ (after (codes "undo") bytes) undo_at _ (command, rest) h3 (λ behind word. undo-is bytes behind command rest (after-is (codes "undo") bytes behind word)) (λ h4.
+    change-is bytes command rest h4))))

@@ -1,0 +1,142 @@
+-- The plain Form of a session script: one command a line, with single blanks and LF line ends. chron's own.
+use Rattle.std.specs.Prelude.{◌≡◌, ℕ, ◌+◌, ◌^◌, ◌<◌, ◌≤◌, Bool, true, false, ◌==◌, ◌||◌, List, [], ◌∷◌, ◌++◌, length, All, IsTrue, codes, decimal, count_by, Option, Some, None, ℤ, pos, ◌≤ℤ◌, ◌-ℤ◌, int_le, if◌then◌else◌}
+use Rattle.std.specs.List.{list_all, flat_map}
+use Rattle.std.specs.Char.{is_ascii_alphanumeric}
+use Rattle.std.specs.Fmt.{signed_decimal}
+use Rattle.cg_num.specs.Year.{IsYear}
+use Rattle.cg_meaning.specs.Tree.{Name, Dating, Free, Exact, Normal, Carbon, Tree, Leaf, Boundary, Group}
+use Rattle.cg_form.specs.Text.{IsText, quoted, IsEnd}
+use Rattle.cg_form.specs.Model.{statement}
+use Rattle.cg_sharing.specs.Edit.{Edit, Set, Add}
+use Rattle.cg_sharing.specs.Journal.{IsInOrder, BringsPlain}
+use Rattle.cg_sharing.specs.Command.{Command, Grid, Open, Take, Undo, Change, Commit, Print, Line}
+
+-- what the name of a model consists of: letters, digits, `_`, `-` and `.`
+abbrev pub is_name_byte : ℕ → Bool
+is_name_byte c = is_ascii_alphanumeric c || c == 95 || c == 45 || c == 46
+
+-- the name of a model: 1 to 64 of these
+pub record IsName (name : Name) : Type 0 where
+  pub some : 1 ≤ length name
+  pub short : length name ≤ 64
+  pub plain : IsTrue (list_all is_name_byte name)
+
+-- the years of grids, cal BP
+abbrev pub IsGridYear : ℤ → Type 0
+IsGridYear year = (pos 0 ≤ℤ year) × (year ≤ℤ pos 60000)
+
+-- what statements may say of an event: nothing, or its exact year
+abbrev pub IsStated : Dating → Type 0
+IsStated Free = Unit {0}
+IsStated (Exact year) = IsYear year
+IsStated (Normal year error) = ⊥
+IsStated (Carbon age error) = ⊥
+
+-- the calendar year of a cal BP year: AD years are positive, BC years negative
+abbrev pub calendar_of : ℤ → ℤ
+calendar_of bp = if int_le bp (pos 1949) then pos 1950 -ℤ bp else pos 1949 -ℤ bp
+
+-- the calendar year of a statement, where it has one
+abbrev pub year_in : Dating → Option ℤ
+year_in Free = None
+year_in (Exact year) = Some (calendar_of year)
+year_in (Normal year error) = None
+year_in (Carbon age error) = None
+
+-- a statement without a name
+abbrev pub nameless : Option ℤ → List ℕ
+nameless None = codes "Date();"
+nameless (Some year) = codes "C_Date(" ++ signed_decimal year ++ codes ");"
+
+-- a statement with one, of a leaf
+abbrev pub IsLeaf : Tree → Type 0
+IsLeaf (Leaf name dating) = IsText name × IsStated dating
+IsLeaf (Boundary name) = ⊥
+IsLeaf (Group kind name ts) = ⊥
+
+abbrev pub text_of_leaf : Tree → List ℕ
+text_of_leaf (Leaf name dating) = statement name (year_in dating)
+text_of_leaf (Boundary name) = []
+text_of_leaf (Group kind name ts) = []
+
+abbrev pub IsChange : Edit → Type 0
+IsChange (Set event dating) = IsText event × IsStated dating
+IsChange (Add group node) = IsText group × IsLeaf node
+
+abbrev pub text_of_change : Edit → List ℕ
+text_of_change (Set event dating) = codes "set " ++ quoted event ++ codes " " ++ nameless (year_in dating)
+text_of_change (Add group node) = codes "add " ++ quoted group ++ codes " " ++ text_of_leaf node
+
+-- what each command may be given
+abbrev pub IsCommand : Command → Type 0
+IsCommand (Grid older younger) = IsGridYear older × IsGridYear younger
+IsCommand (Open name) = IsName name
+IsCommand (Take version) = version < 10 ^ 7
+IsCommand Undo = Unit {0}
+IsCommand (Change edit) = IsChange edit
+IsCommand (Commit name) = IsName name
+IsCommand (Print event) = IsText event
+
+-- a command as it stands in the script
+abbrev pub text_of_command : Command → List ℕ
+text_of_command (Grid older younger) = codes "grid " ++ signed_decimal older ++ codes " " ++ signed_decimal younger
+text_of_command (Open name) = codes "open " ++ name
+text_of_command (Take version) = codes "take v" ++ decimal version
+text_of_command Undo = codes "undo"
+text_of_command (Change edit) = text_of_change edit
+text_of_command (Commit name) = codes "commit " ++ name
+text_of_command (Print event) = codes "print " ++ quoted event
+
+-- its line
+abbrev pub line_of : Command → List ℕ
+line_of command = text_of_command command ++ codes "\n"
+
+abbrev pub is_print : Command → Bool
+is_print (Grid older younger) = false
+is_print (Open name) = false
+is_print (Take version) = false
+is_print Undo = false
+is_print (Change edit) = false
+is_print (Commit name) = false
+is_print (Print event) = true
+
+-- commands on successive lines from this one on
+abbrev pub lines_from : ℕ → List Command → List Line
+lines_from number [] = []
+lines_from number (command ∷ commands) = record { number = number; command = command } ∷ lines_from (number + 1) commands
+
+-- The bytes are in the Form of a script, and these are its commands: with the LF that may be missing at their end, they
+-- are the lines of the commands.
+pub record IsScript (bytes : List ℕ) (lines : List Line) : Type 0 where
+  pub commands : List Command
+  pub missing : List ℕ
+  pub each : All IsCommand commands
+  pub few : length commands ≤ 1000
+  pub prints : count_by is_print commands ≤ 200
+  pub ended : IsEnd missing
+  pub form : bytes ++ missing ≡ flat_map line_of commands
+  pub numbered : lines ≡ lines_from 1 commands
+
+-- the bytes are not in the Form of a script
+abbrev pub HasNoScript : List ℕ → Type 0
+HasNoScript bytes = (lines : List Line) → ¬ IsScript bytes lines
+
+-- bytes say one script at most
+abbrev pub IsOneScript : Type 0
+IsOneScript = (bytes : List ℕ) (x y : List Line) → IsScript bytes x → IsScript bytes y → x ≡ y
+
+-- the change of a command, where it has one, is in order and brings a plain leaf
+abbrev pub IsSound : Command → Type 0
+IsSound (Grid older younger) = Unit {0}
+IsSound (Open name) = Unit {0}
+IsSound (Take version) = Unit {0}
+IsSound Undo = Unit {0}
+IsSound (Change edit) = IsInOrder edit × BringsPlain edit
+IsSound (Commit name) = Unit {0}
+IsSound (Print event) = Unit {0}
+
+-- What holds of each script that was read: at most 1,000 commands and 200 prints, and sound changes.
+pub record IsBounded (lines : List Line) : Type 0 where
+  pub few : length lines ≤ 1000
+  pub prints : count_by (λ line. is_print line.command) lines ≤ 200
+  pub sound : All (λ line. IsSound line.command) lines

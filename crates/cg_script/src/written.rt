@@ -1,0 +1,46 @@
+ghost use Rattle.std.specs.Prelude.{◌≡◌, IfOk};
+ghost use Rattle.cg_script.specs.Command.{command_in};
+ghost use Rattle.cg_script.specs.Form.{IsCommand};
+ghost use Rattle.cg_script.specs.Written.{said_by};
+
+use crate::command::Command;
+use cg_edit::Edit;
+use cg_form::name_of;
+use cg_model::{Dating, Node};
+use cg_num::{NoMemory, Year};
+use std::alloc::Global;
+
+/// A command whose names still stand in the bytes.
+#[derive(Drop)]
+pub enum Written<'a> {
+    Grid(Year, Year),
+    Open(&'a str),
+    Take(u32),
+    Undo,
+    Set(&'a str, Dating),
+    Add(&'a str, &'a str, Dating),
+    Commit(&'a str),
+    Print(&'a str),
+}
+
+/// The same command with names of its own.
+pub fn owned(alloc: Global, written: &Written) -> Result<Command, NoMemory>
+    requires { IsCommand (said_by written.now) }
+    ensures { IfOk result (λ command. command_in command ≡ said_by written.now) }
+{
+    match written {
+        Written::Grid(older, younger) => Ok(Command::Grid(*older, *younger)),
+        Written::Open(name) => Ok(Command::Open(name_of(alloc, name)?)),
+        Written::Take(version) => Ok(Command::Take(*version)),
+        Written::Undo => Ok(Command::Undo),
+        Written::Set(event, dating) => {
+            Ok(Command::Change(Edit::Set(name_of(alloc, event)?, *dating)))
+        }
+        Written::Add(group, name, dating) => {
+            let node = Node::Leaf(name_of(alloc, name)?, *dating);
+            Ok(Command::Change(Edit::Add(name_of(alloc, group)?, node)))
+        }
+        Written::Commit(name) => Ok(Command::Commit(name_of(alloc, name)?)),
+        Written::Print(event) => Ok(Command::Print(name_of(alloc, event)?)),
+    }
+}
