@@ -1,0 +1,10 @@
+use Rattle.std.proofs.Common.{◌++◌}
+use Rattle.cg_sharing.specs.Texts.{pair_lines}
+use Rattle.cg_session.proofs.LineLemmas.{next_line}
+use Rattle.cg_session.proofs.lines.push_pairs.Goals as goal
+
+pub loop-cell-preserved : goal.loop-cell-preserved
+loop-cell-preserved c =
+    let grid = c.args.grid.now in let pairs = c.args.pairs.now in
+    next_line grid pairs c.loop-cell.cell c.pair.result c.year.result c.loop-cell.out.items c.push_pair.new.out.items (c.args.out.now.items ++ pair_lines grid 0 pairs)
+    c.pair.ensures.value c.year.ensures c.in_ok-push_pair.ensures c.loop-cell.invariant

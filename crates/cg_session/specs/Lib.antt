@@ -1,0 +1,5 @@
+pub mod Cause
+pub mod Port
+pub mod Session
+pub mod Standing
+pub mod Transcript

@@ -1,0 +1,48 @@
+use cg_book::{Book, Event, Reply};
+use std::alloc::Global;
+
+/// The way to a book for one seat: an event, and its reply. A port tells its seat, and what this seat has seen of the
+/// book: the versions at the start, and the journal as it was at the seat's last event.
+pub trait Port {
+    ghost use Rattle.std.specs.Prelude.{◌≡◌, ℕ};
+    ghost use Rattle.cg_sharing.specs.Journal.{IsLegal, May};
+    ghost use Rattle.cg_book.specs.Plain.{Seen, state_of, asked, answered, Carries};
+    ghost use Rattle.cg_session.specs.Port.{Grows};
+
+    ghost seat: { Self → ℕ };
+
+    ghost seen: { Self → Seen };
+
+    // that no other seat makes entries
+    ghost alone: { Self → Type 0 };
+
+    /// One event. The reply is the answer of the seat's new entry, which stands behind those that other seats made
+    /// meanwhile. Want of memory makes no entry.
+    fn event(&mut self, alloc: Global, event: Event) -> Reply
+        requires legal { IsLegal (seen self.old).start (seen self.old).journal }
+        requires may { May (state_of (seen self.old)) (asked event) }
+        ensures seat { seat self.new ≡ seat self.old }
+        ensures alone { alone self.old → alone self.new }
+        ensures legal { IsLegal (seen self.new).start (seen self.new).journal }
+        ensures grows { Grows (seat self.old) (alone self.old) (asked event) (answered result) (seen self.old) (seen self.new) }
+        ensures carries { Carries (seen self.new) result };
+}
+
+/// The port of a seat that has the book to itself.
+#[derive(Drop)]
+pub struct BookPort<'a> {
+    pub book: &'a mut Book,
+    pub seat: u32,
+}
+
+impl Port for BookPort<'_> {
+    ghost seat = { λ port. port.seat };
+
+    ghost seen = { λ port. port.book.now };
+
+    ghost alone = { λ _. Unit {0} };
+
+    fn event(&mut self, alloc: Global, event: Event) -> Reply {
+        self.book.apply(alloc, self.seat, event)
+    }
+}

@@ -1,0 +1,44 @@
+//! The event that a print is for.
+ghost use Rattle.std.specs.Prelude.{◌≡◌, ◌≢◌, ◌<◌, [], IfOk, IfErr, Ok, Err};
+ghost use Rattle.cg_meaning.specs.Tree.{count_all};
+ghost use Rattle.cg_model.specs.Node.{tree_of};
+ghost use Rattle.cg_sharing.specs.Edit.{EditFault, kind_of};
+ghost use Rattle.cg_sharing.specs.Texts.{Fault};
+ghost use Rattle.cg_sharing.specs.Course.{event_of};
+ghost use Rattle.cg_edit.specs.Plain.{kind_in};
+ghost use Rattle.cg_session.specs.Cause.{cause_in};
+
+use crate::cause::Cause;
+use cg_edit::Kind;
+use cg_model::{Found, ModelTree, Name, Node};
+
+fn kind_of(node: &Node) -> Kind
+    ensures { kind_in result ≡ kind_of (tree_of node.now) }
+{
+    match node {
+        Node::Leaf(_, _) => Kind::Leaf,
+        Node::Boundary(_) => Kind::Boundary,
+        Node::Sequence(_, _) => Kind::Sequence,
+        Node::Phase(_, _) => Kind::Phase,
+        Node::After(_, _) => Kind::After,
+        Node::Before(_, _) => Kind::Before,
+    }
+}
+
+/// The number of the event of a name that isn't empty, counted from 0 in the order of the text. The cause is that no
+/// node or several have the name, or that a group has it.
+pub(crate) fn event_of(model: &ModelTree, name: &Name) -> Result<u32, Cause>
+    requires { name.now ≢ [] }
+    ensures ok { IfOk result (λ event. event_of name.now model.now.top ≡ Ok event) }
+    ensures within { IfOk result (λ event. event < count_all model.now.top) }
+    ensures err { IfErr result (λ cause. (fault : EditFault) × (event_of name.now model.now.top ≡ Err fault) × (cause_in cause ≡ Fault fault)) }
+{
+    match model.find(name) {
+        Found::Nobody => Err(Cause::NoName),
+        Found::Many(count) => Err(Cause::Ambiguous(count)),
+        Found::One(place) => match model.event_number(place) {
+            Some(event) => Ok(event),
+            None => Err(Cause::WrongKind(kind_of(model.node(place)))),
+        },
+    }
+}

@@ -1,0 +1,162 @@
+ghost use Rattle.std.specs.Prelude.{◌≡◌, ◌<◌, ◌≤◌, ◌+◌, length, slice_get, Some, true, false, vec_len, vec_capacity, IfOk, OnErr, MatchOption};
+ghost use Rattle.cg_sharing.specs.Command as spec;
+ghost use Rattle.cg_sharing.specs.Journal.{IsLegal};
+ghost use Rattle.cg_sharing.specs.Course.{answered, transcript_of, AreOthers};
+ghost use Rattle.cg_book.specs.Plain as book;
+ghost use Rattle.cg_book.specs.Plain.{Seen, state_of, Carries};
+
+use crate::port::Port;
+use crate::standing::{Standing, spare_of};
+use crate::transcript::Transcript;
+use cg_book::{Event, Reply};
+use cg_model::Name;
+use cg_num::NoMemory;
+use cg_script::Script;
+use std::alloc::Global;
+
+/// How far a call of `advance` came.
+#[derive(Clone, Copy, Debug, PartialEq, Eq)]
+pub enum Progress {
+    /// It made one event.
+    Moved,
+    /// The script is done. No event was made.
+    Ended,
+    /// Want of memory stopped the session. No event was made.
+    Stopped,
+}
+
+// An event to be made, with a spare name for its answer.
+#[derive(Drop)]
+pub(crate) struct Asked {
+    pub event: Event,
+    pub spare: Option<Name>,
+}
+
+/// A session: its number, which is that of its seat, its script, and how far it has come.
+#[derive(Drop)]
+pub struct Session {
+    number: u32,
+    script: Script,
+    // how many lines are done
+    done: usize,
+    standing: Standing,
+    stopped: bool,
+}
+
+impl Session {
+    ghost use Rattle.cg_session.specs.Standing.{marginals, place_in, HasText, HasPlain, IsSpare};
+    ghost use Rattle.cg_session.specs.Transcript.{HasRoom};
+    ghost use Rattle.cg_session.specs.Session.{seat_of, script_of, left_of, standing_of, AreReady, IsAt, IsStart, IsSame, IsPrepared, Came};
+
+    /// A session before its first command.
+    pub fn new(alloc: Global, number: u32, script: Script) -> Result<Session, NoMemory>
+        requires { AreReady script }
+        ensures at { IfOk result (λ session. (seen : Seen) → IsLegal seen.start seen.journal → AreOthers number seen.journal → IsAt seen session) }
+        ensures same { IfOk result (λ session. (seat_of session ≡ number) × (script_of session ≡ script)) }
+    {
+        let standing = Standing {
+            transcript: Transcript::begin(alloc, number)?,
+            version: None,
+            grid: None,
+            bases: Vec::new(alloc),
+        };
+        Ok(Session {
+            number,
+            script,
+            done: 0,
+            standing,
+            stopped: false,
+        })
+    }
+
+    // Does the commands up to the next event, and prepares that event, if there is one.
+    fn prepare(&mut self, alloc: Global) -> Result<Option<Asked>, NoMemory>
+        requires ready { AreReady self.old.script }
+        requires within { self.old.done ≤ length self.old.script }
+        requires plain { HasPlain self.old.standing.version }
+        ensures same { IsSame self.old self.new }
+        ensures at { (seen : Seen) → self.old.stopped ≡ false → IsAt seen self.old → IsAt seen self.new }
+        ensures forward { self.old.done ≤ self.new.done }
+        ensures unfinished { OnErr result (self.new.done < length self.new.script) }
+        ensures next { IfOk result (λ asked. MatchOption asked (self.new.done ≡ length self.new.script) (λ next. IsPrepared next self.new)) }
+    {
+        while self.done < self.script.len() {
+            let (line, command) = self.script.get(self.done);
+            if let Some(event) = self.standing.event(alloc, command)? {
+                let spare = spare_of(alloc, command)?;
+                self.standing.make_room()?;
+                return Ok(Some(Asked { event, spare }));
+            }
+            self.standing.run(alloc, line, command)?;
+            self.done += 1;
+        }
+        Ok(None)
+    }
+
+    // Takes the answer to the event of the next line.
+    fn settle(&mut self, spare: Option<Name>, reply: Reply) -> Progress
+        requires within { self.old.done < length self.old.script }
+        requires few { length self.old.script ≤ 1000 }
+        requires room { HasRoom self.old.standing.transcript 64 }
+        requires base { vec_len self.old.standing.bases < vec_capacity self.old.standing.bases }
+        ensures same { (self.new.number ≡ self.old.number) × (self.new.script ≡ self.old.script) }
+        ensures text { (seen : Seen) → HasText (state_of seen) self.old.standing.version → Carries seen reply → HasText (state_of seen) self.new.standing.version }
+        ensures came { MatchOption (book.answered reply)
+            ((result ≡ Progress.Stopped) × (self.new.stopped ≡ true) × (self.new.done ≡ self.old.done) × (place_in self.new.standing ≡ place_in self.old.standing))
+            (λ a. (result ≡ Progress.Moved) × (self.new.stopped ≡ self.old.stopped) × (self.new.done ≡ self.old.done + 1)
+            × ((line : spec.Line) → slice_get self.old.script self.old.done ≡ Some line → IsSpare line.command spare
+            → place_in self.new.standing ≡ answered line a (place_in self.old.standing))) }
+    {
+        let (line, _) = self.script.get(self.done);
+        if self.standing.answer(line, spare, reply) {
+            self.done += 1;
+            Progress::Moved
+        } else {
+            self.stopped = true;
+            Progress::Stopped
+        }
+    }
+
+    /// Goes on until one event is made, the script is done or want of memory has stopped the session. `Ended` and
+    /// `Stopped` make no event, and repeat.
+    pub fn advance<Q: Port>(&mut self, alloc: Global, port: &mut Q) -> Progress
+        requires seat { Q.seat port.old ≡ seat_of self.old }
+        requires start { IsStart (Q.seen port.old).start }
+        requires at { IsAt (Q.seen port.old) self.old }
+        ensures same { (seat_of self.new ≡ seat_of self.old) × (script_of self.new ≡ script_of self.old) }
+        ensures seat { Q.seat port.new ≡ Q.seat port.old }
+        ensures alone { Q.alone port.old → Q.alone port.new }
+        ensures start { (Q.seen port.new).start ≡ (Q.seen port.old).start }
+        ensures at { IsAt (Q.seen port.new) self.new }
+        ensures came { Came result (Q.alone port.old) (Q.seen port.old) (Q.seen port.new) self.old self.new }
+    {
+        if self.stopped {
+            return Progress::Stopped;
+        }
+        match self.prepare(alloc) {
+            Ok(Some(Asked { event, spare })) => {
+                let reply = port.event(alloc, event);
+                self.settle(spare, reply)
+            }
+            Ok(None) => Progress::Ended,
+            Err(NoMemory) => {
+                self.stopped = true;
+                Progress::Stopped
+            }
+        }
+    }
+
+    /// The transcript, with its last line. It is whole after `Ended` and `Stopped`. Takes no memory.
+    pub fn into_transcript(self) -> Vec<u8>
+        ensures { result.items ≡ transcript_of (seat_of self) (standing_of self) }
+    {
+        let Session {
+            number,
+            standing,
+            stopped,
+            ..
+        } = self;
+        let Standing { transcript, .. } = standing;
+        transcript.close(stopped, number)
+    }
+}

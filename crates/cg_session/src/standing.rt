@@ -1,0 +1,245 @@
+ghost use Rattle.std.specs.Prelude.{◌≡◌, ◌≢◌, ◌<◌, List, [], map, option_map, position, is_some, bytes_eq, vec_len, vec_capacity, IfOk, OnOk, OnErr, MatchOption};
+ghost use Rattle.cg_sharing.specs.Command as spec;
+ghost use Rattle.cg_sharing.specs.Versions.{State, head_of};
+ghost use Rattle.cg_sharing.specs.Course.{act_of, with_grid, grid_of, done_at, with_base, bases_after, answered};
+ghost use Rattle.cg_script.specs.Command.{command_in};
+ghost use Rattle.cg_book.specs.Plain as book;
+ghost use Rattle.cg_session.specs.Standing.{base_in, IsSpare};
+ghost use Rattle.cg_book.specs.Plain.{Seen, state_of, asked, Carries};
+
+use crate::cause::Cause;
+use crate::lines::{grid_line, marginal_lines};
+use crate::search::event_of;
+use crate::transcript::Transcript;
+use cg_book::{Event, Reply};
+use cg_model::{Grid, ModelTree, Name};
+use cg_num::{NoMemory, Year};
+use cg_script::Command;
+use cg_up::evaluate;
+use std::alloc::Global;
+use std::sync::Arc;
+
+/// The version that a session is at.
+#[derive(Drop)]
+pub(crate) struct Version {
+    pub number: u32,
+    pub tree: Arc<ModelTree>,
+}
+
+/// The version that a session last opened or committed by a name.
+#[derive(Drop)]
+pub(crate) struct Base {
+    pub name: Name,
+    pub version: u32,
+}
+
+/// What a session has written, and what it is at.
+#[derive(Drop)]
+pub(crate) struct Standing {
+    pub transcript: Transcript,
+    pub version: Option<Version>,
+    pub grid: Option<Grid>,
+    pub bases: Vec<Base>,
+}
+
+fn place_of(bases: &[Base], name: &Name) -> Option<usize>
+    ensures { result ≡ position (λ base. bytes_eq name.now base.name) bases.now }
+{
+    bases
+        .iter()
+        .position(|base| name.text() == base.name.text())
+}
+
+fn base_of(bases: &[Base], name: &Name) -> Option<u32>
+    ensures { result ≡ head_of name.now (map base_in bases.now) }
+{
+    match place_of(bases, name) {
+        Some(place) => Some(bases[place].version),
+        None => None,
+    }
+}
+
+fn set_base(bases: &mut Vec<Base>, name: Name, version: u32)
+    requires { vec_len bases.old < vec_capacity bases.old }
+    ensures { map base_in bases.new.items ≡ with_base name version (map base_in bases.old.items) }
+{
+    match place_of(bases, &name) {
+        Some(place) => bases[place].version = version,
+        None => bases.push_reserved(Base { name, version }),
+    }
+}
+
+// Only an open and a commit, which have a spare name, set a base.
+fn note_base(bases: &mut Vec<Base>, spare: Option<Name>, version: u32)
+    requires { vec_len bases.old < vec_capacity bases.old }
+    ensures { (command : spec.Command) → IsSpare command spare → map base_in bases.new.items ≡ bases_after command version (map base_in bases.old.items) }
+{
+    if let Some(name) = spare {
+        set_base(bases, name, version);
+    }
+}
+
+/// A copy of the name of an open or a commit.
+pub(crate) fn spare_of(alloc: Global, command: &Command) -> Result<Option<Name>, NoMemory>
+    ensures { IfOk result (λ spare. IsSpare (command_in command.now) spare) }
+{
+    match command {
+        Command::Open(name) => Ok(Some(name.copy(alloc)?)),
+        Command::Commit(name) => Ok(Some(name.copy(alloc)?)),
+        _ => Ok(None),
+    }
+}
+
+impl Standing {
+    ghost use Rattle.cg_session.specs.Standing.{marginals, number_of, place_in, HasText, HasPlain, IsReady};
+    ghost use Rattle.cg_session.specs.Transcript.{HasRoom};
+
+    /// The event of a command, if it makes one here.
+    pub fn event(&self, alloc: Global, command: &Command) -> Result<Option<Event>, NoMemory>
+        ensures { IfOk result (λ event. option_map asked event ≡ act_of (place_in self.now) (command_in command.now)) }
+    {
+        match command {
+            Command::Grid(_, _) => Ok(None),
+            Command::Print(_) => Ok(None),
+            Command::Open(name) => Ok(Some(Event::Head(name.copy(alloc)?))),
+            Command::Take(version) => Ok(Some(Event::Take(*version))),
+            Command::Undo => match &self.version {
+                Some(at) => Ok(Some(Event::Undo(at.number))),
+                None => Ok(None),
+            },
+            Command::Change(edit) => match &self.version {
+                Some(at) => Ok(Some(Event::Change(at.number, edit.copy(alloc)?))),
+                None => Ok(None),
+            },
+            Command::Commit(name) => match &self.version {
+                Some(at) => {
+                    let base = base_of(&self.bases, name);
+                    Ok(Some(Event::Commit(name.copy(alloc)?, base, at.number)))
+                }
+                None => Ok(None),
+            },
+        }
+    }
+
+    /// Makes room for an answer. All else stays.
+    pub fn make_room(&mut self) -> Result<(), NoMemory>
+        ensures place { place_in self.new ≡ place_in self.old }
+        ensures version { self.new.version ≡ self.old.version }
+        ensures line { OnOk result (HasRoom self.new.transcript 64) }
+        ensures base { OnOk result (vec_len self.new.bases < vec_capacity self.new.bases) }
+    {
+        self.transcript.make_room()?;
+        self.bases.reserve(1)?;
+        Ok(())
+    }
+
+    /// Does a command that makes no event. Without memory all stays.
+    pub fn run(&mut self, alloc: Global, line: u32, command: &Command) -> Result<(), NoMemory>
+        requires ready { IsReady (command_in command.now) }
+        requires plain { HasPlain self.old.version }
+        ensures ok { OnOk result ((state : State) → HasText state self.old.version
+            → place_in self.new ≡ done_at marginals state line (command_in command.now) (place_in self.old)) }
+        ensures err { OnErr result (place_in self.new ≡ place_in self.old) }
+        ensures version { self.new.version ≡ self.old.version }
+    {
+        self.transcript.make_room()?;
+        match command {
+            Command::Grid(older, younger) => self.set_grid(alloc, line, *older, *younger),
+            Command::Print(name) => self.print(alloc, line, name),
+            _ => {
+                self.transcript.refuse(line, &Cause::NotOpen);
+                Ok(())
+            }
+        }
+    }
+
+    fn set_grid(
+        &mut self,
+        alloc: Global,
+        line: u32,
+        older: Year,
+        younger: Year,
+    ) -> Result<(), NoMemory>
+        requires { HasRoom self.old.transcript 64 }
+        ensures ok { OnOk result (place_in self.new ≡ with_grid line (grid_of older younger) (place_in self.old)) }
+        ensures err { OnErr result (place_in self.new ≡ place_in self.old) }
+        ensures version { self.new.version ≡ self.old.version }
+    {
+        match Grid::new(older, younger) {
+            Ok(grid) => {
+                let text = grid_line(alloc, &grid)?;
+                self.transcript.append(&text)?;
+                self.grid = Some(grid);
+            }
+            Err(limit) => self.transcript.refuse(line, &Cause::GridLimit(limit.cells)),
+        }
+        Ok(())
+    }
+
+    fn print(&mut self, alloc: Global, line: u32, name: &Name) -> Result<(), NoMemory>
+        requires room { HasRoom self.old.transcript 64 }
+        requires named { name.now ≢ [] }
+        requires plain { HasPlain self.old.version }
+        ensures ok { OnOk result ((state : State) → HasText state self.old.version
+            → place_in self.new ≡ done_at marginals state line (spec.Print name.now) (place_in self.old)) }
+        ensures err { OnErr result (place_in self.new ≡ place_in self.old) }
+        ensures version { self.new.version ≡ self.old.version }
+    {
+        let Some(version) = &self.version else {
+            self.transcript.refuse(line, &Cause::NotOpen);
+            return Ok(());
+        };
+        let Some(grid) = &self.grid else {
+            self.transcript.refuse(line, &Cause::NoGrid);
+            return Ok(());
+        };
+        match event_of(&version.tree, name) {
+            Ok(event) => {
+                let marginal = evaluate(alloc, &version.tree, event, grid)?;
+                let text = marginal_lines(alloc, grid, name, version.number, &marginal)?;
+                self.transcript.append(&text)?;
+            }
+            Err(cause) => self.transcript.refuse(line, &cause),
+        }
+        Ok(())
+    }
+
+    /// Takes the answer to a command's event, and says whether there was one: want of memory is none, and then all
+    /// stays. Takes no memory.
+    pub fn answer(&mut self, line: u32, spare: Option<Name>, reply: Reply) -> bool
+        requires line { HasRoom self.old.transcript 64 }
+        requires base { vec_len self.old.bases < vec_capacity self.old.bases }
+        ensures came { result ≡ is_some (book.answered reply) }
+        ensures place { MatchOption (book.answered reply) (place_in self.new ≡ place_in self.old) (λ a. (command : spec.Command) → IsSpare command spare
+            → place_in self.new ≡ answered (record { number = line; command = command }) a (place_in self.old)) }
+        ensures version { (seen : Seen) → HasText (state_of seen) self.old.version → Carries seen reply → HasText (state_of seen) self.new.version }
+    {
+        match reply {
+            Reply::At(number, tree) => {
+                note_base(&mut self.bases, spare, number);
+                self.version = Some(Version { number, tree });
+                self.transcript.tell(b"at v", number);
+            }
+            Reply::Made(number, tree) => {
+                self.version = Some(Version { number, tree });
+                self.transcript.tell(b"made v", number);
+            }
+            Reply::Committed(number) => {
+                note_base(&mut self.bases, spare, number);
+                self.transcript.tell(b"committed v", number);
+            }
+            Reply::NoModel => self.transcript.refuse(line, &Cause::NoModel),
+            Reply::NoVersion(count) => self.transcript.refuse(line, &Cause::NoVersion(count)),
+            Reply::NoParent => self.transcript.refuse(line, &Cause::NoParent),
+            Reply::Refused(fault) => {
+                let Some(cause) = Cause::of_fault(fault) else {
+                    return false;
+                };
+                self.transcript.refuse(line, &cause);
+            }
+            Reply::Moved(head) => self.transcript.refuse(line, &Cause::Moved(head)),
+            Reply::NoMemory => return false,
+        }
+        true
+    }
+}
