@@ -7,7 +7,8 @@ use Rattle.cg_meaning.specs.Scene.{Scene}
 use Rattle.cg_meaning.specs.Pairs.{first, pair_of, boundary_after, factorial, span_weight, pairs_at, pairs_at_all, pairs_in_sequence}
 use Rattle.cg_meaning.specs.Sums.{product_from, product_by}
 use Rattle.cg_meaning.specs.Posterior.{weight_of}
-use Rattle.cg_listing.specs.Listing.{ones, largest_sum, is_listed, share_of}
+use Rattle.cg_meaning.specs.Weights.{ones}
+use Rattle.cg_listing.specs.Listing.{largest_sum, is_listed, share_of}
 use Rattle.cg_listing.proofs.SizeLemmas.{product_by-le}
 
 -- each event has its place in the list of pairs

@@ -2,13 +2,9 @@
 use Rattle.std.specs.Prelude.{ℕ, ◌*◌, ◌^◌, ◌<◌, ◌≤◌, ◌&&◌, ◌==◌, Bool, cond, List, length, slice_index, All, Option, Some, None}
 use Rattle.cg_meaning.specs.Tree.{Tree}
 use Rattle.cg_meaning.specs.Scene.{Scene}
-use Rattle.cg_meaning.specs.Weights.{Weighting}
+use Rattle.cg_meaning.specs.Weights.{ones}
 use Rattle.cg_meaning.specs.Pairs.{factorial}
 use Rattle.cg_meaning.specs.Posterior.{allows, weight_of}
-
--- each event has the weight 1 at each cell
-abbrev pub ones : Weighting
-ones event cell = 1
 
 -- What the sum of the weights of all datings can't pass: there are cells ^ events of them, and each event has a span
 -- weight of at most cells!

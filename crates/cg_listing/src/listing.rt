@@ -5,7 +5,8 @@ ghost use Rattle.cg_meaning.specs.Tree.{count_all, paths_of, root_of};
 ghost use Rattle.cg_meaning.specs.Scene.{scene_on};
 ghost use Rattle.cg_meaning.specs.Sums.{sum_over};
 ghost use Rattle.cg_meaning.specs.Posterior.{total, total_at};
-ghost use Rattle.cg_listing.specs.Listing.{ones, largest_sum, is_listed, share_of, IsBegun};
+ghost use Rattle.cg_meaning.specs.Weights.{ones};
+ghost use Rattle.cg_listing.specs.Listing.{largest_sum, is_listed, share_of, IsBegun};
 
 use crate::order::{is_dated, is_ordered};
 use crate::pairs::pairs;

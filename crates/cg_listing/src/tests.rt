@@ -4,6 +4,7 @@ use crate::*;
 use cg_model::{Grid, ModelTree};
 use cg_num::Year;
 use plan::{Plan, model_of};
+use std::alloc::Global;
 use std::process::Abort;
 use std::test::Fail;
 
@@ -41,34 +42,15 @@ const EXACT: &[Plan] = &[Plan::Exact(1_999)];
 
 const RIGHT_ORDER: &[Plan] = &[Plan::Sequence(&[Plan::Exact(2_009), Plan::Exact(1_999)])];
 
-/// A model on the grid from an older year to a younger one, an event of it, and the sums of weights: of all datings,
-/// and of those with the event at each cell.
-#[derive(Clone, Copy)]
-struct Row {
-    model: &'static [Plan<'static>],
-    older: i32,
-    younger: i32,
-    event: u32,
-    total: u128,
-    totals: &'static [u128],
-}
-
-const fn case(
-    model: &'static [Plan<'static>],
-    (older, younger): (i32, i32),
-    event: u32,
-    total: u128,
-    totals: &'static [u128],
-) -> Row {
-    Row {
-        model,
-        older,
-        younger,
-        event,
-        total,
-        totals,
-    }
-}
+// A model, the older and the younger year of its grid, an event of it, and the sums of weights: of all datings, and of
+// those with the event at each cell.
+type Row = (
+    &'static [Plan<'static>],
+    (i32, i32),
+    u32,
+    u128,
+    &'static [u128],
+);
 
 fn grid(older: i32, younger: i32) -> Result<Grid, Fail> {
     let older = Year::of_bp(older as i64).ok_or("no year")?;
@@ -76,115 +58,128 @@ fn grid(older: i32, younger: i32) -> Result<Grid, Fail> {
     Ok(Grid::new(older, younger)?)
 }
 
-fn assert_totals<R: AllocGlobal + Abort>(rt: &R, row: &Row) -> Result<(), Fail> {
-    let model = model_of(rt.alloc(), row.model)?;
-    let grid = grid(row.older, row.younger)?;
-    assert!(rt; row.event < model.events());
-    assert_eq!(rt; grid.cells(), row.totals.len());
-    assert_eq!(rt; list_total(rt.alloc(), &model, &grid), Ok(row.total));
-    for (cell, want) in row.totals.iter().enumerate() {
-        let total = list_total_at(rt.alloc(), &model, &grid, row.event, cell);
-        assert_eq!(rt; total, Ok(*want), "event {} at cell {cell}", row.event);
+// the sums with the event at each cell are these
+fn assert_cells<R: AllocGlobal + Abort>(
+    rt: &R,
+    model: &ModelTree,
+    grid: &Grid,
+    event: u32,
+    totals: &[u128],
+) {
+    assert!(rt; event < model.events() && grid.cells() == totals.len());
+    for (cell, want) in totals.iter().enumerate() {
+        let total = list_total_at(rt.alloc(), model, grid, event, cell);
+        assert!(rt; total == Ok(*want), "cell {cell}");
+    }
+}
+
+fn assert_rows<R: AllocGlobal + Abort>(rt: &R, rows: &[Row]) -> Result<(), Fail> {
+    for (plans, years, event, total, totals) in rows {
+        let model = model_of(rt.alloc(), plans)?;
+        let grid = grid(years.0, years.1)?;
+        assert!(rt; list_total(rt.alloc(), &model, &grid) == Ok(*total));
+        assert_cells(rt, &model, &grid, *event, totals);
     }
     Ok(())
 }
+
+static ORDER: [Row; 6] = [
+    // one date has its choice
+    (ONE_DATE, (1_950, 1_949), 0, 2, &[1, 1]),
+    (TWO_EVENTS, (2_000, 2_000), 0, 1, &[1]),
+    // of nine lists, six are in order
+    (TWO_EVENTS, (2_002, 2_000), 0, 6, &[3, 2, 1]),
+    (TWO_EVENTS, (2_002, 2_000), 1, 6, &[1, 2, 3]),
+    (SIDE_BY_SIDE, (2_001, 2_000), 0, 4, &[2, 2]),
+    (SIDE_BY_SIDE, (2_001, 2_000), 1, 4, &[2, 2]),
+];
 
 #[test]
 fn order(rt: HostRuntime) -> Result<(), Fail> {
-    let rows = [
-        // one date has its choice
-        case(ONE_DATE, (1_950, 1_949), 0, 2, &[1, 1]),
-        case(TWO_EVENTS, (2_000, 2_000), 0, 1, &[1]),
-        // of nine lists, six are in order
-        case(TWO_EVENTS, (2_002, 2_000), 0, 6, &[3, 2, 1]),
-        case(TWO_EVENTS, (2_002, 2_000), 1, 6, &[1, 2, 3]),
-        case(SIDE_BY_SIDE, (2_001, 2_000), 0, 4, &[2, 2]),
-        case(SIDE_BY_SIDE, (2_001, 2_000), 1, 4, &[2, 2]),
-    ];
-    for row in rows {
-        assert_totals(&rt, &row)?;
-    }
-    Ok(())
+    assert_rows(&rt, &ORDER)
 }
+
+static ONE_SIDED_GROUPS: [Row; 9] = [
+    // the last at cell 0 leaves the others one way, at cell 1 four
+    (WITH_AFTER, (2_001, 2_000), 0, 5, &[3, 2]),
+    (WITH_AFTER, (2_001, 2_000), 1, 5, &[3, 2]),
+    (WITH_AFTER, (2_001, 2_000), 2, 5, &[1, 4]),
+    // the first at cell 0 leaves the others four ways, at cell 1 one
+    (WITH_BEFORE, (2_001, 2_000), 0, 5, &[4, 1]),
+    (WITH_BEFORE, (2_001, 2_000), 1, 5, &[2, 3]),
+    (WITH_BEFORE, (2_001, 2_000), 2, 5, &[2, 3]),
+    // groups that bound nothing
+    (BESIDE_NOTHING, (2_001, 2_000), 0, 2, &[1, 1]),
+    (AFTER_LAST, (2_001, 2_000), 0, 4, &[2, 2]),
+    (BEFORE_FIRST, (2_001, 2_000), 1, 4, &[2, 2]),
+];
 
 #[test]
 fn one_sided_groups(rt: HostRuntime) -> Result<(), Fail> {
-    let rows = [
-        // the last at cell 0 leaves the others one way, at cell 1 four
-        case(WITH_AFTER, (2_001, 2_000), 0, 5, &[3, 2]),
-        case(WITH_AFTER, (2_001, 2_000), 1, 5, &[3, 2]),
-        case(WITH_AFTER, (2_001, 2_000), 2, 5, &[1, 4]),
-        // the first at cell 0 leaves the others four ways, at cell 1 one
-        case(WITH_BEFORE, (2_001, 2_000), 0, 5, &[4, 1]),
-        case(WITH_BEFORE, (2_001, 2_000), 1, 5, &[2, 3]),
-        case(WITH_BEFORE, (2_001, 2_000), 2, 5, &[2, 3]),
-        // groups that bound nothing
-        case(BESIDE_NOTHING, (2_001, 2_000), 0, 2, &[1, 1]),
-        case(AFTER_LAST, (2_001, 2_000), 0, 4, &[2, 2]),
-        case(BEFORE_FIRST, (2_001, 2_000), 1, 4, &[2, 2]),
-    ];
-    for row in rows {
-        assert_totals(&rt, &row)?;
-    }
-    Ok(())
+    assert_rows(&rt, &ONE_SIDED_GROUPS)
 }
+
+static EXACT_YEARS: [Row; 4] = [
+    (WRONG_ORDER, (2_010, 1_998), 0, 0, &[0; 13]),
+    (
+        RIGHT_ORDER,
+        (2_010, 1_998),
+        0,
+        1,
+        &[0, 1, 0, 0, 0, 0, 0, 0, 0, 0, 0, 0, 0],
+    ),
+    (
+        RIGHT_ORDER,
+        (2_010, 1_998),
+        1,
+        1,
+        &[0, 0, 0, 0, 0, 0, 0, 0, 0, 0, 0, 1, 0],
+    ),
+    // outside the grid
+    (EXACT, (1_998, 1_990), 0, 0, &[0; 9]),
+];
 
 #[test]
 fn exact_years(rt: HostRuntime) -> Result<(), Fail> {
-    let rows = [
-        case(WRONG_ORDER, (2_010, 1_998), 0, 0, &[0; 13]),
-        case(
-            RIGHT_ORDER,
-            (2_010, 1_998),
-            0,
-            1,
-            &[0, 1, 0, 0, 0, 0, 0, 0, 0, 0, 0, 0, 0],
-        ),
-        case(
-            RIGHT_ORDER,
-            (2_010, 1_998),
-            1,
-            1,
-            &[0, 0, 0, 0, 0, 0, 0, 0, 0, 0, 0, 1, 0],
-        ),
-        // outside the grid
-        case(EXACT, (1_998, 1_990), 0, 0, &[0; 9]),
-    ];
-    for row in rows {
-        assert_totals(&rt, &row)?;
-    }
-    Ok(())
+    assert_rows(&rt, &EXACT_YEARS)
 }
+
+static SPANS: [Row; 6] = [
+    // a half, two thirds and a third: each two Boundaries in order weigh 2!
+    (SPAN, (2_001, 2_000), 0, 6, &[4, 2]),
+    (SPAN, (2_001, 2_000), 1, 6, &[3, 3]),
+    (SPAN, (2_001, 2_000), 2, 6, &[2, 4]),
+    // and here 3!
+    (SPAN, (2_002, 2_000), 0, 36, &[18, 12, 6]),
+    // seven and four elevenths: both outer Boundaries at one cell weigh 8, apart 6
+    (NESTED_SPANS, (2_001, 2_000), 0, 22, &[14, 8]),
+    (NESTED_SPANS, (2_001, 2_000), 2, 22, &[11, 11]),
+];
 
 #[test]
 fn spans(rt: HostRuntime) -> Result<(), Fail> {
-    let rows = [
-        // a half, two thirds and a third: each two Boundaries in order weigh 2!
-        case(SPAN, (2_001, 2_000), 0, 6, &[4, 2]),
-        case(SPAN, (2_001, 2_000), 1, 6, &[3, 3]),
-        case(SPAN, (2_001, 2_000), 2, 6, &[2, 4]),
-        // and here 3!
-        case(SPAN, (2_002, 2_000), 0, 36, &[18, 12, 6]),
-        // seven and four elevenths: both outer Boundaries at one cell weigh 8, apart 6
-        case(NESTED_SPANS, (2_001, 2_000), 0, 22, &[14, 8]),
-        case(NESTED_SPANS, (2_001, 2_000), 2, 22, &[11, 11]),
-    ];
-    for row in rows {
-        assert_totals(&rt, &row)?;
-    }
-    Ok(())
+    assert_rows(&rt, &SPANS)
+}
+
+// the sum for one event, or for none, on the grid between these years
+fn total(
+    alloc: Global,
+    top: &[Plan],
+    years: (i32, i32),
+) -> Result<Result<u128, ListingFault>, Fail> {
+    let model = model_of(alloc, top)?;
+    let grid = grid(years.0, years.1)?;
+    Ok(list_total(alloc, &model, &grid))
 }
 
 #[test]
 fn sizes(rt: HostRuntime) -> Result<(), Fail> {
     // one event on 33 cells, with 33 * 33! < 2^128, on 34, and none on 512
-    let date = model_of(rt.alloc(), ONE_DATE)?;
-    let empty = model_of(rt.alloc(), &[])?;
-    assert_eq!(rt; list_total(rt.alloc(), &date, &grid(2_032, 2_000)?), Ok(33));
-    assert_eq!(rt;
-        list_total(rt.alloc(), &date, &grid(2_033, 2_000)?),
-        Err(ListingFault::TooLarge)
-    );
-    assert_eq!(rt; list_total(rt.alloc(), &empty, &grid(2_511, 2_000)?), Ok(1));
+    let large = total(rt.alloc(), ONE_DATE, (2_032, 2_000))?;
+    assert!(rt; large == Ok(33));
+    let too_large = total(rt.alloc(), ONE_DATE, (2_033, 2_000))?;
+    assert!(rt; too_large == Err(ListingFault::TooLarge));
+    let empty = total(rt.alloc(), &[], (2_511, 2_000))?;
+    assert!(rt; empty == Ok(1));
     Ok(())
 }

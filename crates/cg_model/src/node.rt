@@ -71,7 +71,8 @@ impl Members {
         &self.items.as_slice()[place]
     }
 
-    pub(crate) fn nodes(&self) -> &[Node]
+    /// The members, one after another. Takes no memory.
+    pub fn nodes(&self) -> &[Node]
         ensures { result.now ≡ items_of self.now }
     {
         self.items.as_slice()
@@ -94,7 +95,8 @@ impl Node {
     ghost use Rattle.cg_model.specs.Event.{is_event};
     ghost use Rattle.cg_model.specs.Node.{tree_of};
 
-    pub(crate) fn name(&self) -> &Name
+    /// The name of the node. Takes no memory.
+    pub fn name(&self) -> &Name
         ensures { result.now ≡ name_of (tree_of self.now) }
     {
         match self {

@@ -8,42 +8,83 @@ use cg_num::{Decimal, Year};
 use std::alloc::Global;
 use std::test::Fail;
 
-#[test]
-fn names(rt: HostRuntime) -> Result<(), Fail> {
-    let longest = "é".repeat(rt.alloc(), 60)?;
-    let too_long = format!(in rt.alloc(); "{}x", longest.as_str())?;
-    for text in ["", "OxA-1", longest.as_str()] {
-        let name = Name::new(rt.alloc(), text)?;
-        assert_eq!(rt; name.text(), text);
-        assert_eq!(rt; name.copy(rt.alloc())?.text(), text);
-    }
-    assert_eq!(rt; too_long.len(), 121);
-    let refused = Name::new(rt.alloc(), too_long.as_str()).err();
-    assert_eq!(rt; refused, Some(NameFault::TooLong));
-    Ok(())
+// 60 letters of two bytes
+const LONGEST: &str = "éééééééééééééééééééééééééééééééééééééééééééééééééééééééééééé";
+
+const TOO_LONG: &str = "ééééééééééééééééééééééééééééééééééééééééééééééééééééééééééééx";
+
+// whether the name of a text, and its copy, keep it
+fn is_kept(alloc: Global, text: &str) -> Result<bool, Fail> {
+    let name = Name::new(alloc, text)?;
+    let copy = name.copy(alloc)?;
+    Ok(name.text() == text && copy.text() == text)
 }
 
 #[test]
-fn grids(rt: HostRuntime) {
-    let cases = [
-        (2_000, 2_000, Ok(1)),
-        (2_511, 2_000, Ok(512)),
-        (2_512, 2_000, Err(513)),
-        (2_000, 2_001, Err(0)),
-        (-1_000, 60_000, Err(-60_999)),
-        (60_000, -1_000, Err(61_001)),
-        (-489, -1_000, Ok(512)),
-    ];
-    for (older, younger, want) in cases {
-        match Grid::new(Year::within(older), Year::within(younger)) {
-            Ok(grid) => {
-                assert_eq!(rt; Ok(grid.cells()), want, "{older} to {younger}");
-                assert_eq!(rt; grid.year(0).bp(), older);
-                assert_eq!(rt; grid.year(grid.cells() - 1).bp(), younger);
-            }
-            Err(limit) => assert_eq!(rt; Err(limit.cells), want, "{older} to {younger}"),
-        }
+fn names(rt: HostRuntime) -> Result<(), Fail> {
+    for text in ["", "OxA-1", LONGEST] {
+        assert!(rt; is_kept(rt.alloc(), text)?, "{text}");
     }
+    Ok(())
+}
+
+fn fault_of(alloc: Global, text: &str) -> Option<NameFault> {
+    Name::new(alloc, text).err()
+}
+
+#[test]
+fn long_names(rt: HostRuntime) {
+    assert!(rt; LONGEST.len() == 120 && TOO_LONG.len() == 121);
+    assert!(rt; fault_of(rt.alloc(), TOO_LONG) == Some(NameFault::TooLong));
+}
+
+static GRIDS: [(i64, i64, i64); 3] = [(2_000, 2_000, 1), (2_511, 2_000, 512), (-489, -1_000, 512)];
+
+static NO_GRIDS: [(i64, i64, i64); 4] = [
+    (2_512, 2_000, 513),
+    (2_000, 2_001, 0),
+    (-1_000, 60_000, -60_999),
+    (60_000, -1_000, 61_001),
+];
+
+fn year(bp: i64) -> Result<Year, Fail> {
+    Ok(Year::of_bp(bp).ok_or("no year")?)
+}
+
+// the cells of the grid between these years, and its first and last year
+fn ends(older: i64, younger: i64) -> Result<(i64, i64, i64), Fail> {
+    let grid = Grid::new(year(older)?, year(younger)?)?;
+    let cells = grid.cells();
+    let first = grid.year(0).bp();
+    let last = grid.year(cells - 1).bp();
+    Ok((first as i64, last as i64, cells as i64))
+}
+
+#[test]
+fn grids(rt: HostRuntime) -> Result<(), Fail> {
+    for (older, younger, cells) in &GRIDS {
+        assert!(rt;
+            ends(*older, *younger)? == (*older, *younger, *cells),
+            "{cells} cells"
+        );
+    }
+    Ok(())
+}
+
+fn limit_between(older: i64, younger: i64) -> Result<Option<GridLimit>, Fail> {
+    Ok(Grid::new(year(older)?, year(younger)?).err())
+}
+
+#[test]
+fn refused_grids(rt: HostRuntime) -> Result<(), Fail> {
+    for (older, younger, cells) in &NO_GRIDS {
+        let limit = GridLimit { cells: *cells };
+        assert!(rt;
+            limit_between(*older, *younger)? == Some(limit),
+            "{cells} cells"
+        );
+    }
+    Ok(())
 }
 
 // a leaf under groups, so that it stands at this depth
@@ -87,27 +128,29 @@ fn with_groups(alloc: Global, members: Members, count: u32) -> Result<Members, F
     Ok(members)
 }
 
+static LIMITS: [(u32, u32, u32, Option<Limit>); 6] = [
+    (100, 60, 16, None),
+    (101, 60, 16, Some(Limit::Events)),
+    (100, 61, 16, Some(Limit::Groups)),
+    (100, 60, 17, Some(Limit::Depth)),
+    (101, 61, 17, Some(Limit::Events)),
+    (100, 61, 17, Some(Limit::Groups)),
+];
+
+// the limit that a tree of so many events and groups passes, with a leaf at this depth
+fn limit_of(alloc: Global, events: u32, groups: u32, depth: u32) -> Result<Option<Limit>, Fail> {
+    // the leaf brings one event and the groups around it
+    let deep = leaf_at(alloc, depth)?;
+    let wide = with_leaves(alloc, deep, events.saturating_sub(1))?;
+    let top = with_groups(alloc, wide, groups.saturating_sub(depth).saturating_add(1))?;
+    Ok(ModelTree::new(None, top).err())
+}
+
 #[test]
 fn limits(rt: HostRuntime) -> Result<(), Fail> {
-    let cases = [
-        (100, 60, 16, None),
-        (101, 60, 16, Some(Limit::Events)),
-        (100, 61, 16, Some(Limit::Groups)),
-        (100, 60, 17, Some(Limit::Depth)),
-        (101, 61, 17, Some(Limit::Events)),
-        (100, 61, 17, Some(Limit::Groups)),
-    ];
-    for (events, groups, depth, want) in cases {
-        // the leaf at this depth brings one event and the groups around it
-        let deep = leaf_at(rt.alloc(), depth)?;
-        let wide = with_leaves(rt.alloc(), deep, events - 1)?;
-        let top = with_groups(rt.alloc(), wide, groups + 1 - depth)?;
-        let limit = ModelTree::new(None, top).err();
-        assert_eq!(rt;
-            limit,
-            want,
-            "{events} events, {groups} groups, depth {depth}"
-        );
+    for (events, groups, depth, want) in &LIMITS {
+        let limit = limit_of(rt.alloc(), *events, *groups, *depth)?;
+        assert!(rt; limit == *want, "{events} events");
     }
     Ok(())
 }
@@ -167,105 +210,176 @@ fn model(alloc: Global) -> Result<ModelTree, Fail> {
     Ok(ModelTree::new(Some(curve), site(alloc)?)?)
 }
 
+static FOUND: [(&str, Found); 6] = [
+    ("Z", Found::Nobody),
+    ("s", Found::One(0)),
+    ("p", Found::One(2)),
+    ("R", Found::One(6)),
+    ("E", Found::One(7)),
+    // a leaf and a group
+    ("A", Found::Many(2)),
+];
+
+fn found(alloc: Global, text: &str) -> Result<Found, Fail> {
+    let name = name(alloc, text)?;
+    if text.is_empty() {
+        return Err("no name")?;
+    }
+    Ok(model(alloc)?.find(&name))
+}
+
 #[test]
 fn finds(rt: HostRuntime) -> Result<(), Fail> {
-    let cases = [
-        ("Z", Found::Nobody),
-        ("s", Found::One(0)),
-        ("p", Found::One(2)),
-        ("R", Found::One(6)),
-        ("E", Found::One(7)),
-        // a leaf and a group
-        ("A", Found::Many(2)),
-    ];
-    let model = model(rt.alloc())?;
-    for (text, want) in cases {
-        assert!(rt; !text.is_empty());
-        let name = name(rt.alloc(), text)?;
-        assert_eq!(rt; model.find(&name), want, "{text}");
+    for (text, want) in &FOUND {
+        assert!(rt; found(rt.alloc(), text)? == *want, "{text}");
     }
     Ok(())
+}
+
+// how many nodes and events there are
+fn counts(alloc: Global) -> Result<(u32, u32), Fail> {
+    let model = model(alloc)?;
+    Ok((model.size(), model.events()))
+}
+
+#[test]
+fn sizes(rt: HostRuntime) -> Result<(), Fail> {
+    assert!(rt; counts(rt.alloc())? == (11, 7));
+    Ok(())
+}
+
+static PLACES: [(&str, Option<u32>); 11] = [
+    ("s", None),
+    ("S", Some(0)),
+    ("p", None),
+    ("A", Some(1)),
+    ("B", Some(2)),
+    ("A", None),
+    ("R", Some(3)),
+    ("E", Some(4)),
+    ("", None),
+    ("N", Some(5)),
+    ("", Some(6)),
+];
+
+// whether the node at a place has this name and number
+fn is_at(alloc: Global, place: u32, text: &str, number: Option<u32>) -> Result<bool, Fail> {
+    let model = model(alloc)?;
+    Ok(
+        place < model.size()
+            && model.node(place).name().text() == text
+            && model.event_number(place) == number,
+    )
 }
 
 #[test]
 fn places(rt: HostRuntime) -> Result<(), Fail> {
-    let wants = [
-        ("s", None),
-        ("S", Some(0)),
-        ("p", None),
-        ("A", Some(1)),
-        ("B", Some(2)),
-        ("A", None),
-        ("R", Some(3)),
-        ("E", Some(4)),
-        ("", None),
-        ("N", Some(5)),
-        ("", Some(6)),
-    ];
-    let model = model(rt.alloc())?;
-    assert_eq!(rt; model.size(), 11);
-    for place in 0..model.size() {
-        let (text, number) = *wants.get(place as usize).ok_or("past the last")?;
-        assert_eq!(rt; model.node(place).name().text(), text, "place {place}");
-        assert_eq!(rt; model.event_number(place), number, "place {place}");
+    let mut place = 0;
+    for (text, number) in &PLACES {
+        assert!(rt; is_at(rt.alloc(), place, text, *number)?, "place {place}");
+        place = place.saturating_add(1);
     }
     Ok(())
+}
+
+// the dating of each event of the model
+fn dating_at(event: u32) -> Dating {
+    match event {
+        2 => Dating::Exact(Year::within(2_000)),
+        3 => Dating::Carbon(Decimal::within(2_340_000), Decimal::within(30_000)),
+        5 => Dating::Normal(Year::within(2_010), Decimal::within(5_000)),
+        _ => Dating::Free,
+    }
+}
+
+fn copied(alloc: Global) -> Result<ModelTree, Fail> {
+    Ok(model(alloc)?.copy(alloc)?)
+}
+
+// whether the copy of the model has the dating of this event
+fn is_dated(alloc: Global, event: u32) -> Result<bool, Fail> {
+    let model = copied(alloc)?;
+    Ok(event < model.events() && *model.dating(event) == dating_at(event))
 }
 
 #[test]
 fn datings(rt: HostRuntime) -> Result<(), Fail> {
-    let wants = [
-        Dating::Free,
-        Dating::Free,
-        Dating::Exact(Year::within(2_000)),
-        Dating::Carbon(Decimal::within(2_340_000), Decimal::within(30_000)),
-        Dating::Free,
-        Dating::Normal(Year::within(2_010), Decimal::within(5_000)),
-        Dating::Free,
-    ];
-    let model = model(rt.alloc())?.copy(rt.alloc())?;
-    assert_eq!(rt; model.events(), 7);
-    for event in 0..model.events() {
-        let want = wants.get(event as usize).ok_or("past the last")?;
-        assert_eq!(rt; *model.dating(event), *want, "event {event}");
+    for event in 0..7 {
+        assert!(rt; is_dated(rt.alloc(), event)?, "event {event}");
+    }
+    Ok(())
+}
+
+fn has_curve(alloc: Global, text: &str) -> Result<bool, Fail> {
+    match copied(alloc)?.curve() {
+        Some(curve) => Ok(curve.text() == text),
+        None => Ok(false),
+    }
+}
+
+#[test]
+fn curves(rt: HostRuntime) -> Result<(), Fail> {
+    assert!(rt; has_curve(rt.alloc(), "IntCal20.14c")?);
+    Ok(())
+}
+
+fn top_of(alloc: Global) -> Result<Members, Fail> {
+    Ok(model(alloc)?.top().copy(alloc)?)
+}
+
+// whether the name of a top statement, and of its copy, is this text
+fn is_top(alloc: Global, place: usize, text: &str) -> Result<bool, Fail> {
+    let top = top_of(alloc)?;
+    if place >= top.len() || top.len() != 3 {
+        return Ok(false);
+    }
+    let copy = top.get(place).copy(alloc)?;
+    Ok(top.get(place).name().text() == text && copy.name().text() == text)
+}
+
+#[test]
+fn tops(rt: HostRuntime) -> Result<(), Fail> {
+    assert!(rt; is_top(rt.alloc(), 0, "s")?);
+    assert!(rt; is_top(rt.alloc(), 2, "")?);
+    Ok(())
+}
+
+// at which of the years 2002 to 2000 cal BP a dating may be
+fn admitted(dating: Dating) -> Result<[bool; 3], Fail> {
+    let grid = Grid::new(year(2_002)?, year(2_000)?)?;
+    if grid.cells() != 3 {
+        return Err("not three cells")?;
+    }
+    Ok([
+        grid.admits(&dating, 0),
+        grid.admits(&dating, 1),
+        grid.admits(&dating, 2),
+    ])
+}
+
+static EXACT: [(i64, [bool; 3]); 3] = [
+    (2_002, [true, false, false]),
+    (2_000, [false, false, true]),
+    (1_999, [false, false, false]),
+];
+
+#[test]
+fn exact_years(rt: HostRuntime) -> Result<(), Fail> {
+    for (bp, want) in &EXACT {
+        assert!(rt;
+            admitted(Dating::Exact(year(*bp)?))? == *want,
+            "{bp} cal BP"
+        );
     }
     Ok(())
 }
 
 #[test]
-fn parts(rt: HostRuntime) -> Result<(), Fail> {
-    let model = model(rt.alloc())?.copy(rt.alloc())?;
-    let curve = model.curve().ok_or("no curve")?;
-    assert_eq!(rt; curve.text(), "IntCal20.14c");
-    let top = model.top().copy(rt.alloc())?;
-    assert_eq!(rt; top.len(), 3);
-    assert_eq!(rt; top.get(0).name().text(), "s");
-    assert_eq!(rt; top.get(2).copy(rt.alloc())?.name().text(), "");
-    Ok(())
-}
-
-#[test]
-fn admitted(rt: HostRuntime) {
-    let cases = [
-        (Dating::Free, [true, true, true]),
-        (Dating::Exact(Year::within(2_002)), [true, false, false]),
-        (Dating::Exact(Year::within(2_000)), [false, false, true]),
-        (Dating::Exact(Year::within(1_999)), [false, false, false]),
-        (
-            Dating::Normal(Year::within(1_999), Decimal::within(1_000)),
-            [true, true, true],
-        ),
-        (
-            Dating::Carbon(Decimal::within(0), Decimal::within(1_000)),
-            [true, true, true],
-        ),
-    ];
-    if let Ok(grid) = Grid::new(Year::within(2_002), Year::within(2_000)) {
-        assert_eq!(rt; grid.cells(), 3);
-        for (dating, wants) in cases {
-            for (cell, want) in wants.iter().enumerate() {
-                assert_eq!(rt; grid.admits(&dating, cell), *want, "{dating:?} at {cell}");
-            }
-        }
+fn any_years(rt: HostRuntime) -> Result<(), Fail> {
+    let normal = Dating::Normal(Year::within(1_999), Decimal::within(1_000));
+    let carbon = Dating::Carbon(Decimal::within(0), Decimal::within(1_000));
+    for dating in [Dating::Free, normal, carbon] {
+        assert!(rt; admitted(dating)? == [true; 3]);
     }
+    Ok(())
 }

@@ -2,36 +2,46 @@ use super::*;
 use std::io;
 use std::test::Fail;
 
+// The path, the limit, the answer, how many bytes were appended and the faults so far.
+static READS: [(&str, usize, Result<ReadEnd, ShelfFault>, usize, u64); 7] = [
+    ("shelf/six", 6, Ok(ReadEnd::Whole), 6, 0),
+    ("shelf/six", 5, Ok(ReadEnd::TooLong), 0, 0),
+    ("shelf/long", 5_000, Ok(ReadEnd::Whole), 5_000, 0),
+    ("shelf/long", 4_999, Ok(ReadEnd::TooLong), 0, 0),
+    ("shelf/absent", 9, Err(ShelfFault::Failed), 0, 1),
+    ("shelf", 9, Err(ShelfFault::Failed), 0, 2),
+    ("shelf/six", usize::MAX, Ok(ReadEnd::Whole), 6, 2),
+];
+
+fn fill_shelf<R: Files>(rt: &R) -> Result<(), Fail> {
+    fs::create_dir_all(rt, "shelf")?;
+    fs::write(rt, "shelf/six", b"three\n")?;
+    fs::write(rt, "shelf/long", &[b'x'; 5_000])?;
+    Ok(())
+}
+
 #[test]
 fn reads_files(rt: HostRuntime) -> Result<(), Fail> {
-    fs::create_dir_all(&rt, "shelf")?;
-    fs::write(&rt, "shelf/six", b"three\n")?;
-    fs::write(&rt, "shelf/long", &[b'x'; 5_000])?;
+    fill_shelf(&rt)?;
     let mut shelf = FileShelf::new(&rt);
-    // The path, the limit, the answer, how many bytes were appended and the faults so far.
-    let cases = [
-        ("shelf/six", 6, Ok(ReadEnd::Whole), 6, 0),
-        ("shelf/six", 5, Ok(ReadEnd::TooLong), 0, 0),
-        ("shelf/long", 5_000, Ok(ReadEnd::Whole), 5_000, 0),
-        ("shelf/long", 4_999, Ok(ReadEnd::TooLong), 0, 0),
-        ("shelf/absent", 9, Err(ShelfFault::Failed), 0, 1),
-        ("shelf", 9, Err(ShelfFault::Failed), 0, 2),
-        ("shelf/six", usize::MAX, Ok(ReadEnd::Whole), 6, 2),
-    ];
-    for (path, limit, answer, appended, faults) in cases {
+    for (path, limit, answer, appended, faults) in &READS {
         let mut into = Vec::from_slice(rt.alloc(), b"-")?;
-        assert_eq!(rt;
-            shelf.read(path, &mut into, limit),
-            answer,
-            "{path} at {limit}"
-        );
-        assert_eq!(rt; into.len(), appended + 1, "{path} at {limit}");
-        assert_eq!(rt; shelf.faults(), faults, "{path} at {limit}");
+        assert!(rt; shelf.read(path, &mut into, *limit) == *answer, "{path}");
+        assert!(rt; into.len() == *appended + 1, "{path}");
+        assert!(rt; shelf.faults() == *faults, "{path}");
     }
-    let mut into = Vec::new(rt.alloc());
-    assert_eq!(rt; shelf.read("shelf/six", &mut into, 9), Ok(ReadEnd::Whole));
-    assert_eq!(rt; into.as_slice(), b"three\n".as_slice());
     fs::remove_dir_all(&rt, "shelf")?;
+    Ok(())
+}
+
+#[test]
+fn reads_bytes(rt: HostRuntime) -> Result<(), Fail> {
+    fs::write(&rt, "six", b"three\n")?;
+    let mut shelf = FileShelf::new(&rt);
+    let mut into = Vec::new(rt.alloc());
+    assert!(rt; shelf.read("six", &mut into, 9) == Ok(ReadEnd::Whole));
+    assert!(rt; into.as_slice() == b"three\n".as_slice());
+    fs::remove_file(&rt, "six")?;
     Ok(())
 }
 
@@ -53,24 +63,24 @@ impl Read for Faulty {
     }
 }
 
+// The limit, the answer and the turns that the reader has left: it would fail at its fourth.
+static BROKEN: [(usize, Result<ReadEnd, ShelfFault>, u8); 3] = [
+    (5, Ok(ReadEnd::TooLong), 0),
+    (3, Ok(ReadEnd::TooLong), 1),
+    (6, Err(ShelfFault::Failed), 0),
+];
+
 #[test]
 fn keeps_nothing_of_a_broken_read(rt: HostRuntime) -> Result<(), Fail> {
-    // The limit, the answer and the turns that the reader has left: it would fail at its fourth.
-    let cases = [
-        (5, Ok(ReadEnd::TooLong), 0),
-        (3, Ok(ReadEnd::TooLong), 1),
-        (6, Err(ShelfFault::Failed), 0),
-    ];
-    for (limit, answer, turns) in cases {
+    for (limit, answer, turns) in &BROKEN {
         let mut into = Vec::from_slice(rt.alloc(), b"-")?;
         let mut file = Faulty { turns: 3 };
-        assert_eq!(rt;
-            append_rest(&mut file, &mut into, limit),
-            answer,
+        assert!(rt;
+            append_rest(&mut file, &mut into, *limit) == *answer,
             "at {limit}"
         );
-        assert_eq!(rt; into.as_slice(), b"-".as_slice(), "at {limit}");
-        assert_eq!(rt; file.turns, turns, "at {limit}");
+        assert!(rt; into.as_slice() == b"-".as_slice(), "at {limit}");
+        assert!(rt; file.turns == *turns, "at {limit}");
     }
     Ok(())
 }
