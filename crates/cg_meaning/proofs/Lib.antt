@@ -1,7 +1,5 @@
 pub mod Sums
 pub mod Marginals
 pub mod Pin
-pub mod Plain
-pub mod Chain
-pub mod Sequence
+pub mod Counts
 pub mod WorkedCases

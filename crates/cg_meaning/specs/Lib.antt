@@ -4,7 +4,7 @@ pub mod Curve
 pub mod Scene
 pub mod Taylor
 pub mod Weights
+pub mod Cover
 pub mod Pairs
 pub mod Sums
 pub mod Posterior
-pub mod Sequence

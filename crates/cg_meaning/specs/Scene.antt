@@ -18,6 +18,10 @@ pub record Scene : Type 0 where
 abbrev pub scene_on : Grid → Scene
 scene_on grid = record { grid = grid; curve = [] }
 
+-- a grid, and a curve that serves all radiocarbon dates
+abbrev pub scene_of : Grid → Curve → Scene
+scene_of grid curve = record { grid = grid; curve = curve }
+
 -- the year of a cell, in cal BP
 abbrev pub year_of : Grid → ℕ → ℤ
 year_of grid cell = grid.oldest -ℤ pos cell

@@ -8,7 +8,7 @@ use Rattle.cg_meaning.specs.Scene.{Scene, admits}
 use Rattle.cg_meaning.specs.Weights.{Weighting}
 use Rattle.cg_meaning.specs.Sums.{product_from}
 use Rattle.cg_meaning.specs.Pairs.{first, span_weight}
-use Rattle.cg_meaning.proofs.Plain.{length-datings_of}
+use Rattle.cg_meaning.proofs.Counts.{length-datings_of}
 use Rattle.cg_part.specs.Part.{own_weight, reaches}
 use Rattle.cg_part.specs.Spans.{has_boundary, open_events}
 use Rattle.cg_part.specs.Tables.{Table, sum_from, cumulated, identity, row_table, row_of, then_table, then_row, in_order, behind, span_item}
