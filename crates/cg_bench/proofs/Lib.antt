@@ -1,1 +1,1 @@
-pub mod FoldLemmas
+mod FoldLemmas

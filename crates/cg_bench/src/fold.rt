@@ -1,13 +1,16 @@
-//! The fold of a triangular table with itself: products and sums of enclosures, row by row.
-ghost use Rattle.std.specs.Prelude.{◌≡◌, ◌+◌, ◌-◌, ◌*◌, ◌^◌, ◌<◌, ◌≤◌, ℕ, All, IfOk, length, slice_index_or};
-ghost use Rattle.std.specs.Prelude.{fold, replicate};
-ghost use Rattle.cg_enc.specs.Enclosure.{exact_zero, IsExponent};
-ghost use Rattle.cg_enc.specs.Rounding.{plus, times};
-ghost use Rattle.cg_bench.specs.Fold.{check_of, folded_row, made, made_table, mixed, start};
+//! A triangular table folded with itself, and a check sum of what comes of it.
+ghost use Rattle.std.specs.Prelude.{◌≡◌, ◌+◌, ◌-◌, ◌*◌, ◌^◌, ◌<◌, ◌≤◌, ℕ, All, IfOk, length, fold};
+ghost use Rattle.cg_enc.specs.Enclosure.{IsExponent};
+ghost use Rattle.cg_table.specs.Formulas.{then_of};
+ghost use Rattle.cg_table.specs.Table.{entry, row, start, table_reach};
+ghost use Rattle.cg_bench.specs.Fold.{check_of, made, made_table, mixed};
 
 use cg_enc::Enc;
 use cg_num::NoMemory;
+use cg_table::{Steps, Tri, then};
 use std::alloc::Global;
+use std::marker::Brand;
+use std::sync::ledger::{Blank, Ledger};
 
 /// The most cells of a table.
 pub const MOST: usize = 512;
@@ -15,33 +18,43 @@ pub const MOST: usize = 512;
 /// The check sum of the fold, with itself, of a table of this many cells whose entries are made by a rule.
 pub fn check_sum(alloc: Global, cells: usize) -> Result<u64, NoMemory>
     requires { cells ≤ 512 }
-    ensures { IfOk result (λ sum. sum ≡ check_of cells (made_table cells) cells) }
+    ensures { IfOk result (λ sum. sum ≡ check_of (then_of (made_table cells) (made_table cells)) cells) }
 {
-    let table = table(alloc, cells)?;
+    let folded = folded::<Brand>(alloc, cells, Blank::new(1))?;
     let mut sum = 0;
     for a in 0..cells {
-        let mut sums = vec![in alloc; Enc::zero(); cells - a]?;
-        fold_row(cells, &table, a, &mut sums);
-        sum = mix(sum, &sums);
+        sum = mix(sum, &folded, a);
     }
     Ok(sum)
 }
 
-/// A table of entries that are made by a rule.
-fn table(alloc: Global, cells: usize) -> Result<Vec<Enc>, NoMemory>
-    requires { cells ≤ 512 }
-    ensures value { IfOk result (λ table. table.items ≡ made_table cells) }
-    ensures near { IfOk result (λ table. All (λ e. IsExponent (2 ^ 20) e.exp) table.items) }
+/// The table folded with itself. Nobody asks for the number of its products.
+fn folded<L: Ledger>(alloc: Global, cells: usize, blank: Blank) -> Result<Tri, NoMemory>
+    requires few { cells ≤ 512 }
+    requires name { blank.name ≡ L.name }
+    requires parts { blank.parts ≡ L.parts }
+    requires some { 0 < L.parts }
+    ensures { IfOk result (λ t. t ≡ then_of (made_table cells) (made_table cells)) }
 {
-    let mut table = Vec::new(alloc);
-    for place in 0..start(cells, cells) {
-        table.push(entry(place as u64))?;
+    let made = table(alloc, cells)?;
+    then(&made, &made, &mut Steps::<L>::open(blank))
+}
+
+/// A table of entries that are made by a rule.
+fn table(alloc: Global, cells: usize) -> Result<Tri, NoMemory>
+    requires { cells ≤ 512 }
+    ensures value { IfOk result (λ t. t ≡ made_table cells) }
+    ensures reach { IfOk result (λ t. table_reach t ≤ 1) }
+{
+    let mut entries = Vec::new(alloc);
+    for place in 0..start(cells) {
+        entries.push(made(place as u64))?;
     }
-    Ok(table)
+    Ok(Tri::of_entries(cells, entries))
 }
 
 /// The entry at a place, by a rule that spreads its digits.
-fn entry(place: u64) -> Enc
+fn made(place: u64) -> Enc
     ensures value { result ≡ made place }
     ensures near { IsExponent (2 ^ 20) result.exp }
 {
@@ -51,57 +64,22 @@ fn entry(place: u64) -> Enc
     Enc::of_bounds(hi - x % 1024, hi, -62 - places)
 }
 
-/// Where row `a` of a table begins.
-fn start(cells: usize, a: usize) -> usize
-    requires few { cells ≤ 512 }
-    requires within { a ≤ cells }
-    ensures { result ≡ start cells a }
+/// How many entries a table has.
+fn start(cells: usize) -> usize
+    requires { cells ≤ 512 }
+    ensures { result ≡ start cells cells }
 {
-    a * (2 * cells + 1 - a) / 2
+    cells * (cells + 1) / 2
 }
 
-/// Row `a` of the fold, into sums that are zero: for each b the sum over c of P(a, c) times P(c, b).
-fn fold_row(cells: usize, table: &[Enc], a: usize, sums: &mut [Enc])
-    requires few { cells ≤ 512 }
-    requires within { a < cells }
-    requires all { length table.now ≡ start cells cells }
-    requires near { All (λ e. IsExponent (2 ^ 20) e.exp) table.now }
-    requires zeros { sums.old ≡ replicate (cells - a) exact_zero }
-    ensures { sums.new ≡ folded_row cells table.now a }
-{
-    let own = start(cells, a);
-    let mut begin = own;
-    for c in a..cells {
-        let factor = table[own + (c - a)];
-        let row = &table[begin..begin + (cells - c)];
-        add_row(&factor, row, sums, c - a);
-        begin += cells - c;
-    }
-}
-
-/// Adds, from the sum at `from` on, the products of a factor and the entries of a row.
-fn add_row(factor: &Enc, row: &[Enc], sums: &mut [Enc], from: usize)
-    requires width { from + length row.now ≡ length sums.old }
-    requires factor { IsExponent (2 ^ 20) factor.now.exp }
-    requires row { All (λ e. IsExponent (2 ^ 20) e.exp) row.now }
-    requires sums { All (λ e. IsExponent (2 ^ 23) e.exp) sums.old }
-    ensures before { (i : ℕ) → i < from →
-        slice_index_or sums.new i exact_zero ≡ slice_index_or sums.old i exact_zero }
-    ensures added { (k : ℕ) → k < length row.now → slice_index_or sums.new (from + k) exact_zero
-        ≡ plus (slice_index_or sums.old (from + k) exact_zero) (times factor.now (slice_index_or row.now k exact_zero)) }
-    ensures near { (m : ℕ) → 2 ^ 22 ≤ m → All (λ e. IsExponent m e.exp) sums.old → All (λ e. IsExponent (m + 1) e.exp) sums.new }
-{
-    for k in 0..row.len() {
-        sums[from + k] = sums[from + k].plus(&factor.times(&row[k]));
-    }
-}
-
-/// A check sum, going on with each of these.
-fn mix(sum: u64, entries: &[Enc]) -> u64
-    ensures { result ≡ fold mixed sum entries.now }
+/// A check sum, going on with each entry of a row.
+fn mix(sum: u64, t: &Tri, a: usize) -> u64
+    requires { a < t.now.cells }
+    ensures { result ≡ fold mixed sum (row t.now.cells (entry t.now) a) }
 {
     let mut sum = sum;
-    for e in entries {
+    for b in a..t.cells() {
+        let e = t.get(a, b);
         sum = sum
             .wrapping_mul(31)
             .wrapping_add(e.lo())

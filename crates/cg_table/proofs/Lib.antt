@@ -5,3 +5,4 @@ pub mod PlaceLemmas
 pub mod WithinLemmas
 pub mod TableLemmas
 pub mod FormulaLemmas
+pub mod JoinLemmas

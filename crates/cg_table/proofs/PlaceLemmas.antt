@@ -128,3 +128,7 @@ ticks_row s s' s0 cells a less e h =
 -- a walk along row a
 pub in_row : (cells a b c i : ℕ) → i + a ≡ start cells a + c → a ≤ c → c ≤ b → b < cells → i < start cells cells
 in_row cells a b c i e le le' less = let here : i ≡ place cells a c = omega arith in omega (arith, here, place_below cells a c cells le (omega arith) (omega arith))
+
+-- a row ends within the table
+pub row_ends : (cells c : ℕ) → c < cells → start cells c + (cells - c) ≤ start cells cells
+row_ends cells c less = omega (arith, start_next cells c, start_rises cells (c + 1) cells (omega arith))

@@ -2,6 +2,7 @@
 #![tactic(auto)]
 
 mod groups;
+mod join;
 mod limits;
 mod order;
 mod row;

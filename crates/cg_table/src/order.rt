@@ -7,9 +7,10 @@ ghost use Rattle.cg_table.specs.Row.{AreEntries};
 ghost use Rattle.cg_table.specs.Table.{IsTable, EnclosesRow, EnclosesTable, entry, row, row_entry};
 ghost use Rattle.cg_table.specs.Table.{start, table_loss, table_reach};
 
+use crate::join::{join_row, push_zeros};
 use crate::row::Row;
 use crate::steps::Steps;
-use crate::tri::{Tri, place_of};
+use crate::tri::Tri;
 use cg_enc::Enc;
 use cg_num::NoMemory;
 use std::sync::ledger::Ledger;
@@ -117,31 +118,8 @@ fn push_then<L: Ledger>(
         ++ row p.now.cells (then_entry (entry p.now) (entry t.now)) a) }
     ensures ticks { 2 * steps.new ≤ 2 * steps.old + (p.now.cells - a) * (p.now.cells - a + 1) }
 {
-    for b in a..p.cells() {
-        entries.push(joined(p, t, a, b, steps))?;
-    }
+    let base = entries.len();
+    push_zeros(entries, p.cells() - a)?;
+    join_row(entries, base, p, t, a, steps);
     Ok(())
-}
-
-// One entry: along row `a` of the first table and down column `b` of the second.
-fn joined<L: Ledger>(p: &Tri, t: &Tri, a: usize, b: usize, steps: &mut Steps<L>) -> Enc
-    requires order { a ≤ b }
-    requires within { b < p.now.cells }
-    requires cells { p.now.cells ≡ t.now.cells }
-    requires reach { table_reach p.now + table_reach t.now < 2 ^ 20 }
-    ensures value { result ≡ then_entry (entry p.now) (entry t.now) a b }
-    ensures ticks { steps.new ≡ steps.old + (b - a + 1) }
-{
-    let (left, right) = (p.items(), t.items());
-    let cells = p.cells();
-    let mut at = place_of(cells, a, a, left.len());
-    let mut below = place_of(cells, a, b, right.len());
-    let mut sum = Enc::zero();
-    for c in a..b + 1 {
-        steps.tick();
-        sum = sum.plus(&left[at].times(&right[below]));
-        at += 1;
-        below += cells - c - 1;
-    }
-    sum
 }

@@ -6,6 +6,6 @@ use Rattle.cg_bench.proofs.fold.table.Given as goal
 
 abbrev pub invariant-loop-place : goal.invariant-loop-place
 invariant-loop-place l = record {
-  value : l.table.items ≡ map made (range_with_len 0 l.place);
-  near : All (λ e. IsExponent (2 ^ 20) e.exp) l.table.items;
+  value : l.entries.items ≡ map made (range_with_len 0 l.place);
+  near : All (λ e. IsExponent (2 ^ 20) e.exp) l.entries.items;
 }

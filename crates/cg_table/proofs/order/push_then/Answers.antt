@@ -1,14 +1,30 @@
-use Rattle.std.proofs.Common.{◌∙◌, arith}
-use Rattle.cg_table.specs.Formulas.{then_entry}
-use Rattle.cg_table.specs.Table.{entry}
-use Rattle.cg_table.proofs.PlaceLemmas.{row_more, ticks_entry, ticks_cut}
+use Rattle.std.proofs.Common.{◌≡◌, ◌+◌, ◌-◌, ◌++◌, ◌∙◌, ℕ, List, length, replicate, get_or, ap, sym, arith}
+use Rattle.std.proofs.lemmas.List.{length-replicate, get_or-append-add, get_or-replicate}
+use Rattle.cg_enc.specs.Enclosure.{Enclosure, exact_zero}
+use Rattle.cg_table.proofs.JoinLemmas.{joined-row, written}
 use Rattle.cg_table.proofs.order.push_then.Goals as goal
 
-pub returns-in_err-push-clause-ticks : goal.returns-in_err-push-clause-ticks
-returns-in_err-push-clause-ticks g c = ticks_cut c.loop-b.steps c.joined.new.steps c.args.steps.now c.args.p.now.cells c.args.a c.loop-b.b (omega arith) (omega arith) c.joined.ensures.ticks c.loop-b.invariant.ticks
+pub join_row-requires-clause-zeros : goal.join_row-requires-clause-zeros
+join_row-requires-clause-zeros g c = λ i less.
+    let front = c.args.entries.now.items in
+    let room : ℕ = c.cells.result - c.args.a in
+    let base : c.len-base.result ≡ length front = omega (arith, c.len-base.ensures) in
+    rw (c.deref_mut.ensures.value, c.in_ok-push_zeros.ensures, base)
+    (get_or-append-add front (replicate room exact_zero) i exact_zero ∙ get_or-replicate room i exact_zero exact_zero (omega (arith, less, c.cells.ensures.value)))
 
-pub loop-b-preserved : goal.loop-b-preserved
-loop-b-preserved g c = record {
-  front = c.in_ok-push.ensures.items ∙ row_more c.args.entries.now.items c.loop-b.entries.items (then_entry (entry c.args.p.now) (entry c.args.t.now) c.args.a) c.joined.result c.args.a c.loop-b.b (omega arith) c.joined.ensures.value c.loop-b.invariant.front;
-  ticks = ticks_entry c.loop-b.steps c.joined.new.steps c.args.steps.now c.args.a c.loop-b.b (omega arith) c.joined.ensures.ticks c.loop-b.invariant.ticks;
-}
+pub returns-clause-row : goal.returns-clause-row
+returns-clause-row g c =
+    let p = c.args.p.now in
+    let t = c.args.t.now in
+    let front = c.args.entries.now.items in
+    let room : ℕ = c.cells.result - c.args.a in
+    let zeros : List Enclosure = replicate room exact_zero in
+    let new = c.join_row.new.sums in
+    let base : c.len-base.result ≡ length front = omega (arith, c.len-base.ensures) in
+    let all : c.push_zeros.new.entries.items ≡ front ++ zeros = c.in_ok-push_zeros.ensures in
+    let lent : c.deref_mut.result.now ≡ front ++ zeros = c.deref_mut.ensures.value ∙ all in
+    let long : length new ≡ length c.push_zeros.new.entries.items = c.join_row.ensures.width ∙ ap length c.deref_mut.ensures.value in
+    written new c.push_zeros.new.entries.items c.push_zeros.new.entries.len long (omega arith)
+    ∙ joined-row p t c.args.a front zeros new (length-replicate room exact_zero ∙ ap (λ (n : ℕ). n - c.args.a) c.cells.ensures.value) (long ∙ ap length all)
+    (λ i less. c.join_row.ensures.before i (omega (arith, base, less)) ∙ ap (λ (xs : List Enclosure). get_or xs i exact_zero) lent)
+    (λ i less. ap (λ (n : ℕ). get_or new (n + i) exact_zero) (sym base) ∙ c.join_row.ensures.row i less)

@@ -1,14 +1,27 @@
 use Rattle.std.proofs.Common.{◌≡◌, ◌+◌, ◌^◌, ◌<◌, ◌∙◌, ℕ, length, get_or, ap, ap₂, subst, sym, inl, inr, arith}
 use Rattle.std.proofs.lemmas.Bool.{cases_eq}
 use Rattle.std.proofs.lemmas.List.{get_or_default, get_or-set_same, get_or-set_other}
-use Rattle.std.proofs.lemmas.List.Elements.{All-set}
 use Rattle.cg_enc.specs.Enclosure.{Enclosure, exact_zero, IsExponent}
 use Rattle.cg_enc.specs.Rounding.{plus, times}
 use Rattle.cg_table.proofs.ReachLemmas.{IsExponent-more}
-use Rattle.cg_bench.proofs.fold.add_row.Goals as goal
+use Rattle.cg_table.proofs.join.add_row.Goals as goal
+
+pub plus-requires-clause-left : goal.plus-requires-clause-left
+plus-requires-clause-left g c =
+    let here : IsExponent (2 ^ 55) (get_or c.loop-k.sums (c.args.from + c.loop-k.k) exact_zero).exp =
+    subst (λ (e : Enclosure). IsExponent (2 ^ 55) e.exp) (sym (c.loop-k.invariant.rest c.loop-k.k (omega arith))) (c.requires.sums c.loop-k.k (omega arith)) in
+    let read = get_or_default c.loop-k.sums (c.args.from + c.loop-k.k) c.index-sums-from.result exact_zero (omega arith) in
+    subst (λ (e : Enclosure). IsExponent (2 ^ 60) e.exp) (sym read)
+    (IsExponent-more (get_or c.loop-k.sums (c.args.from + c.loop-k.k) exact_zero).exp (2 ^ 55) (2 ^ 60) (omega arith) here)
+
+pub plus-requires-clause-right : goal.plus-requires-clause-right
+plus-requires-clause-right g c =
+    let entry : IsExponent (2 ^ 52) c.index-row-k.result.exp =
+    subst (λ (e : Enclosure). IsExponent (2 ^ 52) e.exp) (sym c.index-row-k.is) (c.requires.row c.loop-k.k c.index-row-k.result (omega arith)) in
+    IsExponent-more c.times.result.exp (2 ^ 52 + 2 ^ 52 + 63) (2 ^ 60) (omega arith) (c.times.ensures.exponent (2 ^ 52) (2 ^ 52) c.requires.factor entry)
 
 pub loop-k-preserved : goal.loop-k-preserved
-loop-k-preserved c =
+loop-k-preserved g c =
     let old = c.args.sums.now in
     let now = c.loop-k.sums in
     let row = c.args.row.now in
@@ -27,10 +40,5 @@ loop-k-preserved c =
         | inr ne ↦ get_or-set_other now j (c.args.from + q) c.plus.result exact_zero (λ e. absurd (omega arith)) ∙ c.loop-k.invariant.added q (omega arith)
       ];
       rest = λ q more. get_or-set_other now j (c.args.from + q) c.plus.result exact_zero (λ e. absurd (omega arith)) ∙ c.loop-k.invariant.rest q (omega arith);
-      near = λ m large all.
-          let was : IsExponent m (get_or now j c.index-sums-from.result).exp = subst (λ (e : Enclosure). IsExponent m e.exp) (sym sum_is) (all j exact_zero (omega arith)) in
-          let entry : IsExponent (2 ^ 20) c.index-row-k.result.exp = subst (λ (e : Enclosure). IsExponent (2 ^ 20) e.exp) (sym entry_is) (c.requires.row k exact_zero within) in
-          let product = c.times.ensures.exponent (2 ^ 20) (2 ^ 20) c.requires.factor entry in
-          let sum = c.plus.ensures.exponent m was (IsExponent-more c.times.result.exp (2 ^ 20 + 2 ^ 20 + 63) m (omega arith) product) in
-          All-set (λ e. IsExponent (m + 1) e.exp) now j c.plus.result sum (c.loop-k.invariant.near m large all);
+      ticks = omega arith;
     }

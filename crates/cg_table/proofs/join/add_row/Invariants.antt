@@ -1,13 +1,12 @@
-use Rattle.std.proofs.Common.{◌≡◌, ◌+◌, ◌^◌, ◌<◌, ◌≤◌, ℕ, get_or}
-use Rattle.std.specs.List.{All}
-use Rattle.cg_enc.specs.Enclosure.{exact_zero, IsExponent}
+use Rattle.std.proofs.Common.{◌≡◌, ◌+◌, ◌<◌, ◌≤◌, ℕ, get_or}
+use Rattle.cg_enc.specs.Enclosure.{exact_zero}
 use Rattle.cg_enc.specs.Rounding.{plus, times}
-use Rattle.cg_bench.proofs.fold.add_row.Given as goal
+use Rattle.cg_table.proofs.join.add_row.Given as goal
 
 abbrev pub invariant-loop-k : goal.invariant-loop-k
-invariant-loop-k l = record {
+invariant-loop-k g l = record {
   before : (i : ℕ) → i < l.from → get_or l.sums i exact_zero ≡ get_or l.initial.sums i exact_zero;
   added : (k : ℕ) → k < l.k → get_or l.sums (l.from + k) exact_zero ≡ plus (get_or l.initial.sums (l.from + k) exact_zero) (times l.factor (get_or l.row k exact_zero));
   rest : (k : ℕ) → l.k ≤ k → get_or l.sums (l.from + k) exact_zero ≡ get_or l.initial.sums (l.from + k) exact_zero;
-  near : (m : ℕ) → 2 ^ 22 ≤ m → All (λ e. IsExponent m e.exp) l.initial.sums → All (λ e. IsExponent (m + 1) e.exp) l.sums;
+  ticks : l.steps ≡ l.initial.steps + l.k;
 }
