@@ -47,6 +47,7 @@ impl Curve {
         ensures value { option_map point_of result ≡ point_at self.now bp }
         ensures covered { IsSome result ↔ Covers self.now bp }
         ensures within { IfSome result IsWithin }
+        ensures valid { IsCurve self.now }
     {
         at_year(&self.rows, bp)
     }

@@ -1,0 +1,3 @@
+pub mod Likelihood
+pub mod Cover
+pub mod Distance
