@@ -1,0 +1,13 @@
+pub mod BoundsRows
+pub mod BoundsTables
+pub mod BoundsTrees
+pub mod JoinLemmas
+pub mod NodeLemmas
+pub mod PartLemmas
+pub mod PinLemmas
+pub mod RightLemmas
+pub mod RowLemmas
+pub mod SpanLemmas
+pub mod StepLemmas
+pub mod WeightLemmas
+pub mod WorkedCases

@@ -1,0 +1,5 @@
+use Rattle.cg_recipe.proofs.BoundsTrees.{bounded}
+use Rattle.cg_recipe.proofs.laws.tables_are_bounded.Goals as goal
+
+pub returns : goal.returns
+returns c = bounded

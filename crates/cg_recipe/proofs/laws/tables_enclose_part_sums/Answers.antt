@@ -1,0 +1,5 @@
+use Rattle.cg_recipe.proofs.NodeLemmas.{part-sums}
+use Rattle.cg_recipe.proofs.laws.tables_enclose_part_sums.Goals as goal
+
+pub returns : goal.returns
+returns c = part-sums

@@ -1,0 +1,5 @@
+pub mod Recipe
+pub mod Ticks
+pub mod Enclosed
+pub mod Bounds
+pub mod Laws
