@@ -1,9 +1,6 @@
-pub mod Forward
-pub mod Units
-pub mod Ways
-pub mod Rounded
-pub mod PassLemmas
-pub mod Passes
+pub mod MemberLemmas
+pub mod OrderedLemmas
 pub mod PartLemmas
-pub mod Held
-mod Built
+pub mod PassLemmas
+pub mod RowLemmas
+pub mod WeightLemmas

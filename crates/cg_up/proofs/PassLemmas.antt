@@ -1,84 +1,41 @@
--- One pass over the events, cell by cell from the oldest.
-use Rattle.std.proofs.Common.{◌≡◌, ◌≢◌, ℕ, suc, ◌+◌, ◌^◌, ◌<◌, ◌≤◌, ◌⊎◌, inl, inr, Bool, List, length, get_or, set, refl, sym, ap, ap₂, ◌∙◌, arith, subst, add-one, zero-add, length-set, get_or-set_same, get_or-set_other, lit≤}
-use Rattle.std.specs.Prelude.{if◌then◌else◌}
-use Rattle.std.proofs.lemmas.Bool.{cases_lt}
-use Rattle.std.proofs.lemmas.List.{get_or_default}
-use Rattle.cg_enc.specs.Enclosure.{Enclosure, exact_zero, IsEnclosure, IsExponent}
-use Rattle.cg_enc.specs.Rounding.{plus}
-use Rattle.cg_table.specs.Sums.{sum_of}
-use Rattle.cg_table.proofs.ReachLemmas.{IsExponent-more}
-use Rattle.cg_table.proofs.SumLemmas.{sum_of-IsEnclosure, sum_of-IsExponent}
-use Rattle.cg_up.specs.Recipe.{then_row}
-use Rattle.cg_up.specs.Pass.{entries, units, AreTerms}
-use Rattle.cg_up.proofs.Rounded.{then_row-unit}
+-- A pass that is ready is ready for the recipe's tables.
+use Rattle.std.proofs.Common.{◌≡◌, ℕ, ◌+◌, ◌^◌, ◌<◌, ◌≤◌, length, arith, subst, ap, ◌∙◌}
+use Rattle.cg_meaning.specs.Tree.{Tree, Trees, more, count_all}
+use Rattle.cg_model.specs.Limits.{groups_in}
+use Rattle.cg_table.specs.Table.{Table, table_reach}
+use Rattle.cg_table.specs.Formulas.{identity_of}
+use Rattle.cg_recipe.specs.Bounds.{nodes}
+use Rattle.cg_recipe.specs.Recipe as recipe_pass
+use Rattle.cg_recipe.specs.Recipe.{Rows, table_of, side_by_side}
+use Rattle.cg_recipe.proofs.BoundsTrees as recipe
+use Rattle.cg_recipe.proofs.BoundsTrees.{nodes_in}
+use Rattle.cg_up.specs.Ordered.{HasRoom}
+use Rattle.cg_up.specs.Pass.{IsReady, holding, pass_of, root}
+use Rattle.cg_up.specs.declared.pass.Pass.{Pass}
+use Rattle.cg_up.proofs.OrderedLemmas.{room_less, StandsBeside, stands_beside, side_by_side-near}
 
--- a sum of terms
-sum-valid : (row : List Enclosure) (n : ℕ) → AreTerms row → n ≤ length row → IsEnclosure (sum_of (entries row) 0 n)
-sum-valid row n terms le = sum_of-IsEnclosure (entries row) 0 n (λ i h. terms.valid (0 + i) exact_zero (omega arith))
+pub ready_pass : (pass : Pass) → IsReady pass → recipe.IsReady (pass_of pass)
+ready_pass pass ready = record { few = ready.few; light = ready.light }
 
--- stays within reach
-pub sum-reach : (row : List Enclosure) (n : ℕ) → AreTerms row → n ≤ length row → n ≤ 512 → IsExponent (2 ^ 60) (sum_of (entries row) 0 n).exp
-sum-reach row n terms le few =
-    IsExponent-more (sum_of (entries row) 0 n).exp (2 ^ 59 + n) (2 ^ 60) (omega arith)
-    (sum_of-IsExponent (entries row) (2 ^ 59) 0 n (λ i h. terms.valid (0 + i) exact_zero (omega arith)) (λ i h. terms.near (0 + i) exact_zero (omega arith)))
+-- the table of a Phase reaches little
+pub phase_near : (pass : Pass) (number : ℕ) (ts : Trees) (phase : Table) → IsReady pass → number + count_all ts ≤ length pass.rows.now → groups_in ts ≤ 61 →
+    phase ≡ side_by_side (pass_of pass) number (identity_of pass.cells) ts → table_reach phase < 2 ^ 20
+phase_near pass number ts phase ready events groups is =
+    let near = side_by_side-near (pass_of pass) number ts (ready_pass pass ready) (omega (arith, events, ready.events)) groups in
+    rw is (omega (arith, near.near))
 
--- a term is within reach too
-pub term-reach : (row : List Enclosure) (k : ℕ) (d : Enclosure) → AreTerms row → k < length row → IsExponent (2 ^ 60) (get_or row k d).exp
-term-reach row k d terms h = IsExponent-more (get_or row k d).exp (2 ^ 59) (2 ^ 60) (lit≤ tt) (terms.near k d h)
+-- the next table stands beside those so far
+pub beside_here : (pass : Pass) (number : ℕ) (t : Tree) (ts all : Trees) (others table : Table) → IsReady pass → all ≡ more t ts → number + count_all all ≤ length pass.rows.now →
+    HasRoom pass.cells (nodes_in all) others → table ≡ table_of (pass_of pass) number t → StandsBeside pass.cells (nodes_in ts) others table
+beside_here pass number t ts all others table ready here events room is =
+    let few = ap count_all here in
+    let enough = subst (λ ts. HasRoom pass.cells (nodes_in ts) others) here room in
+    rw is (stands_beside (pass_of pass) number (nodes_in ts) t others (ready_pass pass ready) (omega (arith, few, events, ready.events)) (room_less pass.cells _ (nodes t + nodes_in ts) others (omega arith) enough))
 
--- one more term
-sum-more : (row : List Enclosure) (n : ℕ) (entry sum next : Enclosure) → entry ≡ entries row n → sum ≡ sum_of (entries row) 0 n →
-    next ≡ plus sum entry → next ≡ sum_of (entries row) 0 (suc n)
-sum-more row n entry sum next is so_far added =
-    let here : entry ≡ entries row (0 + n) = is ∙ ap (entries row) (sym (zero-add n)) in
-    added ∙ ap₂ plus so_far here
+-- the table of the whole tree in a pass that holds the event
+pub whole_table : (pass : Pass) (cells event cell : ℕ) (rows : Rows) (ts : Trees) (table : Table) → pass_of pass ≡ holding cells rows event cell →
+    table ≡ side_by_side (pass_of pass) 0 (identity_of pass.cells) ts → table ≡ table_of (holding cells rows event cell) 0 (root ts)
+whole_table pass cells event cell rows ts table held is = is ∙ ap (λ p. table_of p 0 (root ts)) held
 
--- the entry of a cell, whatever stands for one that isn't there
-pub entry-is : (row : List Enclosure) (n : ℕ) (entry : Enclosure) → entry ≡ get_or row n entry → n < length row → entry ≡ entries row n
-entry-is row n entry is h = is ∙ get_or_default row n entry exact_zero h
-
--- The cells below `cell` are written, and `sum` is that of the old entries below it.
-pub record WrittenTo (cells : ℕ) (test : ℕ → Bool) (old new : List Enclosure) (cell : ℕ) (sum : Enclosure) : Type 0 where
-  pub within : cell ≤ cells
-  pub long : length new ≡ cells
-  pub so_far : sum ≡ sum_of (entries old) 0 cell
-  pub written : (k : ℕ) → k < cell → entries new k ≡ then_row (entries old) (units test) k
-  pub left : (k : ℕ) → cell ≤ k → entries new k ≡ entries old k
-
--- no cell is written
-pub written_none : (cells : ℕ) (test : ℕ → Bool) (old : List Enclosure) → length old ≡ cells → WrittenTo cells test old old 0 exact_zero
-written_none cells test old long = record {
-  within = omega arith;
-  long = long;
-  so_far = refl;
-  written = λ k h. absurd (omega arith);
-  left = λ k h. refl;
-}
-
--- what stands at a written cell, by whether it is the new one
-written_at : (test : ℕ → Bool) (old new : List Enclosure) (cell k : ℕ) (value : Enclosure) → (k < cell) ⊎ (cell ≤ k) → cell < length new → k < cell + 1 →
-    value ≡ then_row (entries old) (units test) cell → (k < cell → entries new k ≡ then_row (entries old) (units test) k) →
-    entries (set new cell value) k ≡ then_row (entries old) (units test) k
-written_at test old new cell k value (inl past) inside low here before = let other : k ≢ cell = omega arith in rw get_or-set_other (before past)
-written_at test old new cell k value (inr last) inside low here before =
-    let same : cell ≡ k = omega arith in
-    subst (λ (x : ℕ). entries (set new cell value) x ≡ then_row (entries old) (units test) x) same (rw get_or-set_same here)
-
--- one more cell is written
-pub written_more : (cells : ℕ) (test : ℕ → Bool) (old new : List Enclosure) (cell : ℕ) (sum entry next value : Enclosure) →
-    WrittenTo cells test old new cell sum → AreTerms old → length old ≡ cells → cell < cells → entry ≡ get_or new cell entry →
-    next ≡ plus sum entry → value ≡ (if test cell then next else exact_zero) → WrittenTo cells test old (set new cell value) (cell + 1) next
-written_more cells test old new cell sum entry next value p terms long within is added put =
-    let inside : cell < length new = omega (arith, p.long) in
-    let here : next ≡ sum_of (entries old) 0 (suc cell) =
-    sum-more old cell entry sum next (entry-is new cell entry is inside ∙ p.left cell (omega arith)) p.so_far added in
-    let valid : IsEnclosure (sum_of (entries old) 0 (suc cell)) = sum-valid old (suc cell) terms (omega arith) in
-    let now : value ≡ then_row (entries old) (units test) cell =
-    put ∙ ap (λ x. if test cell then x else exact_zero) here ∙ sym (then_row-unit (entries old) (units test) cell (test cell) valid refl) in
-    record {
-      within = omega arith;
-      long = rw length-set p.long;
-      so_far = here ∙ ap (λ n. sum_of (entries old) 0 n) (sym (add-one cell));
-      written = λ k h. written_at test old new cell k value (cases_lt k cell) inside h now (λ past. p.written k past);
-      left = λ k h. let other : k ≢ cell = omega arith in rw get_or-set_other (p.left k (omega arith));
-    }
+pub same_cells : (pass : Pass) (cells event cell : ℕ) (rows : Rows) → pass_of pass ≡ holding cells rows event cell → pass.cells ≡ cells
+same_cells pass cells event cell rows held = ap (λ (p : recipe_pass.Pass). p.cells) held

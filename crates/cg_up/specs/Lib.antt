@@ -1,2 +1,5 @@
-pub mod Recipe
+pub mod Curve
+pub mod Member
+pub mod Ordered
 pub mod Pass
+pub mod Weighable

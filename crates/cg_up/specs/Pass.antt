@@ -1,25 +1,37 @@
--- What one pass over the events of a Sequence works with.
-use Rattle.std.specs.Prelude.{ℕ, ◌^◌, Bool, not, ◌&&◌, ◌||◌, ◌==◌, if◌then◌else◌, List, All, slice_index_or}
-use Rattle.cg_enc.specs.Enclosure.{Enclosure, exact_zero, IsEnclosure, IsExponent}
+-- What a pass is: that of the recipe with its event held, over rows of weights for the first events.
+use Rattle.std.specs.Prelude.{◌≡◌, ℕ, ◌≤◌, List, [], length, map, slice_index_or, Some}
+use Rattle.std.specs.List.{range_with_len}
+use Rattle.cg_meaning.specs.Tree.{Tree, Trees, Group, Phase}
+use Rattle.cg_enc.specs.Enclosure.{Enclosure}
 use Rattle.cg_enc.specs.Rounding.{of_whole}
-use Rattle.cg_meaning.specs.Tree.{Dating}
-use Rattle.cg_meaning.specs.Scene.{Grid, admits}
-use Rattle.cg_up.specs.declared.pass.Pin.{Pin}
-use Rattle.cg_up.specs.Recipe.{Entries}
+use Rattle.cg_recipe.specs.Recipe as recipe
+use Rattle.cg_recipe.specs.Recipe.{Rows, row_only}
+use Rattle.cg_recipe.specs.Bounds.{AreLight}
+use Rattle.cg_up.specs.declared.pass.Pass.{Pass}
 
--- a list of enclosures by its cells
-abbrev pub entries : List Enclosure → Entries
-entries row cell = slice_index_or row cell exact_zero
+-- the statements of a model stand in one nameless Phase
+abbrev pub root : Trees → Tree
+root ts = Group Phase [] ts
 
--- enclosures whose sums stay within reach
-pub record AreTerms (row : List Enclosure) : Type 0 where
-  pub valid : All IsEnclosure row
-  pub near : All (λ e. IsExponent (2 ^ 59) e.exp) row
+-- an event of which nothing is known weighs 1 at each cell
+abbrev pub ones : ℕ → List Enclosure
+ones cells = map (λ _. of_whole 1) (range_with_len 0 cells)
 
--- an event of this number and dating may be at the cell, where one event is pinned to one cell
-abbrev pub may_be : Grid → Pin → ℕ → Dating → ℕ → Bool
-may_be grid pin event dating cell = (not (event == pin.event) || cell == pin.cell) && admits grid dating cell
+-- these rows for the first events, and ones for any other
+abbrev pub rows_of : ℕ → List (List Enclosure) → Rows
+rows_of cells rows number = slice_index_or rows number (ones cells)
 
--- 1 at the cells of a test, else zero
-abbrev pub units : (ℕ → Bool) → Entries
-units test cell = if test cell then of_whole 1 else exact_zero
+-- the recipe's pass over these rows that holds the event at the cell
+abbrev pub holding : ℕ → Rows → ℕ → ℕ → recipe.Pass
+holding cells rows event cell = record { cells = cells; rows = rows; pin = Some (record { event = event; cell = cell }) }
+
+abbrev pub pass_of : Pass → recipe.Pass
+pass_of pass = holding pass.cells (rows_of pass.cells pass.rows.now) pass.event pass.cell
+
+-- A pass on 1 to 512 cells whose rows, one for each of at most 100 events, lose and reach little, and which has the row of its event as it is held.
+pub record IsReady (pass : Pass) : Type 0 where
+  pub some : 1 ≤ pass.cells
+  pub few : pass.cells ≤ 512
+  pub light : AreLight pass.cells (rows_of pass.cells pass.rows.now)
+  pub events : length pass.rows.now ≤ 100
+  pub held : pass.held ≡ row_only pass.cell (rows_of pass.cells pass.rows.now pass.event)

@@ -1,9 +1,13 @@
-//! The marginal of an event of a model's tree, by rounded sums over the grid's cells.
+//! The marginal of an event of a model's tree, by one pass of tables over the tree for each cell of the grid.
 #![tactic(auto)]
 
+mod hold;
 mod marginal;
-mod parts;
+mod ordered;
 mod pass;
+mod rows;
+mod size;
+mod tables;
 #[cfg(test)]
 mod tests;
 

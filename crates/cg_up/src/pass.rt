@@ -1,83 +1,98 @@
-//! One pass over the events of a Sequence, with one of them pinned to a cell.
-ghost use Rattle.std.specs.Prelude.{◌≡◌, ◌<◌, ◌≤◌, ℕ, length, map, slice_index_or};
-ghost use Rattle.cg_enc.specs.Enclosure.{exact_zero};
-ghost use Rattle.cg_table.specs.Sums.{sum_of};
-ghost use Rattle.cg_model.specs.Dating.{dating_of};
-ghost use Rattle.cg_up.specs.Recipe.{start, then_row, part_of};
-ghost use Rattle.cg_up.specs.Pass.{AreTerms, entries, may_be, units};
+//! One pass over a tree, in which an event is held at a cell.
+ghost use Rattle.std.specs.Prelude.{◌≡◌, ◌+◌, ◌*◌, ◌^◌, ◌<◌, ◌≤◌, IfOk, length};
+ghost use Rattle.cg_table.specs.Table.{table_reach};
+ghost use Rattle.cg_recipe.specs.Bounds.{AreLight};
+ghost use Rattle.cg_recipe.specs.Recipe.{item_in, row_in};
+ghost use Rattle.cg_up.specs.Pass.{IsReady, holding, pass_of, rows_of};
 
-use cg_enc::Enc;
-use cg_model::{Dating, Grid};
+use crate::hold::{row_only, table_only};
+use cg_num::NoMemory;
+use cg_table::{Row, Steps, Tri, spanned};
+use std::alloc::Global;
+use std::sync::ledger::Ledger;
 
-/// An event, by its number, pinned to a cell.
-#[derive(Clone, Copy)]
-pub(crate) struct Pin {
-    pub event: usize,
-    pub cell: usize,
+/// A grid of so many cells, a row of weights for each event, and the event that is held at a cell, with the row that it
+/// has there.
+#[derive(Drop)]
+pub(crate) struct Pass<'a> {
+    alloc: Global,
+    cells: usize,
+    rows: &'a [Row],
+    event: u32,
+    cell: usize,
+    held: Row,
 }
 
-/// The total of one Sequence with an event pinned to a cell. `row` is room for the work.
-pub(crate) fn part(row: &mut [Enc], datings: &[Dating], grid: &Grid, pin: Pin) -> Enc
-    requires cells { length row.old ≡ grid.now.cells }
-    requires some { 0 < grid.now.cells }
-    requires wide { grid.now.cells ≤ 512 }
-    requires few { length datings.now ≤ 100 }
-    ensures { result ≡ part_of grid.now (map dating_of datings.now) pin.event pin.cell }
-{
-    begin(row);
-    for event in 0..datings.len() {
-        put_behind(row, pin, event, &datings[event], grid);
+impl<'a> Pass<'a> {
+    /// The pass that holds the event at the cell.
+    pub(crate) fn new(
+        alloc: Global,
+        cells: usize,
+        rows: &'a [Row],
+        event: u32,
+        cell: usize,
+    ) -> Result<Pass<'a>, NoMemory>
+        requires some { 1 ≤ cells }
+        requires few { cells ≤ 512 }
+        requires light { AreLight cells (rows_of cells rows.now) }
+        requires events { length rows.now ≤ 100 }
+        requires event { event < length rows.now }
+        ensures ready { IfOk result IsReady }
+        ensures rows { IfOk result (λ pass. pass.rows.now ≡ rows.now) }
+        ensures pass { IfOk result (λ pass. pass_of pass ≡ holding cells (rows_of cells rows.now) event cell) }
+    {
+        let held = row_only(alloc, &rows[event as usize], cell)?;
+        Ok(Pass {
+            alloc,
+            cells,
+            rows,
+            event,
+            cell,
+            held,
+        })
     }
-    total(row)
-}
 
-/// The row before any event.
-fn begin(row: &mut [Enc])
-    requires { 0 < length row.old }
-    ensures { (cell : ℕ) → cell < length row.old → slice_index_or row.new cell exact_zero ≡ start cell }
-{
-    row.fill(Enc::zero());
-    row[0] = Enc::of_whole(1);
-}
-
-/// Puts an event behind others: `row` is that of the others, and then that of all of them.
-///
-/// A product with 1 leaves an enclosure as it is, so a cell takes one sum.
-fn put_behind(row: &mut [Enc], pin: Pin, event: usize, dating: &Dating, grid: &Grid)
-    requires cells { length row.old ≡ grid.now.cells }
-    requires wide { grid.now.cells ≤ 512 }
-    requires terms { AreTerms row.old }
-    ensures { (cell : ℕ) → cell < grid.now.cells → slice_index_or row.new cell exact_zero
-        ≡ then_row (entries row.old) (units (may_be grid.now pin event (dating_of dating.now))) cell }
-{
-    let mut sum = Enc::zero();
-    for cell in 0..grid.cells() {
-        sum = sum.plus(&row[cell]);
-        row[cell] = if may_be(grid, pin, event, dating, cell) {
-            sum
-        } else {
-            Enc::zero()
-        };
+    /// How many cells there are.
+    pub(crate) fn cells(&self) -> usize
+        ensures { result ≡ self.now.cells }
+    {
+        self.cells
     }
-}
 
-/// Whether an event may be at a cell: its dating admits it, and the event isn't pinned to another.
-fn may_be(grid: &Grid, pin: Pin, event: usize, dating: &Dating, cell: usize) -> bool
-    requires { cell < grid.now.cells }
-    ensures { result ≡ may_be grid.now pin event (dating_of dating.now) cell }
-{
-    (event != pin.event || cell == pin.cell) && grid.admits(dating, cell)
-}
-
-/// The sum of a row.
-fn total(row: &[Enc]) -> Enc
-    requires wide { length row.now ≤ 512 }
-    requires terms { AreTerms row.now }
-    ensures { result ≡ sum_of (entries row.now) 0 (length row.now) }
-{
-    let mut sum = Enc::zero();
-    for entry in row {
-        sum = sum.plus(entry);
+    /// What tables take their memory from.
+    pub(crate) fn alloc(&self) -> Global {
+        self.alloc
     }
-    sum
+
+    /// The row of an event.
+    pub(crate) fn row(&self, number: u32) -> &Row
+        requires ready { IsReady self.now }
+        requires within { number < length self.now.rows.now }
+        ensures { result.now ≡ row_in (pass_of self.now) number }
+    {
+        if number == self.event {
+            return &self.held;
+        }
+        &self.rows[number as usize]
+    }
+
+    /// The item of a span, by the table of its segment and how many events are open there. The number is that of the
+    /// Boundary that closes it.
+    pub(crate) fn item<L: Ledger>(
+        &self,
+        number: u32,
+        segment: &Tri,
+        opened: u32,
+        steps: &mut Steps<L>,
+    ) -> Result<Tri, NoMemory>
+        requires { table_reach segment.now < 2 ^ 20 }
+        ensures value { IfOk result (λ t. t ≡ item_in (pass_of self.now) number segment.now opened) }
+        ensures ticks { 2 * steps.new ≤ 2 * steps.old + segment.now.cells * (segment.now.cells + 1) + 2 * (segment.now.cells * opened) }
+    {
+        let span = spanned(segment, opened, steps)?;
+        if number == self.event {
+            return table_only(self.alloc, &span, self.cell);
+        }
+        Ok(span)
+    }
 }
