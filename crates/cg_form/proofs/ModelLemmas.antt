@@ -1,217 +1,135 @@
 -- A model file is read as what it says, and what is read is what it says.
-use Rattle.std.proofs.Common.{◌≡◌, ◌≢◌, ℕ, suc, inl, inr, Bool, true, false, cond, not, ◌&&◌, ◌||◌, ◌==◌, List, [], ◌∷◌, ◌++◌, map, slice_index, All, AllPairs, codes, bytes_eq, Option, Some, None, refl, sym, ap, ap₂, ◌∙◌, subst, arith, append_assoc}
-use Rattle.std.specs.List.{list_any, flat_map}
-use Rattle.std.proofs.lemmas.List.Folds.{list_any_none, list_any_at}
-use Rattle.std.proofs.lemmas.List.Kept.{AllPairs-cons}
+use Rattle.std.proofs.Common.{◌≡◌, ℕ, ◌≤◌, inl, inr, true, false, ◌&&◌, nat_le, List, [], ◌++◌, All, codes, bytes_eq, Option, Some, None, refl, sym, ap, ap₂, ◌∙◌, subst, subst₂, arith, le-leb, leb-true}
+use Rattle.std.proofs.lemmas.List.Elements.{All-nil, All-cons, All-append}
 use Rattle.std.proofs.lemmas.Slice.Eq.{bytes_eq-Decides}
-use Rattle.cg_meaning.specs.Tree.{Dating, Name, Chronology}
+use Rattle.cg_meaning.specs.Tree.{Name, Dating, Free, Exact, Normal, Carbon, Sequence, Phase, Tree, Leaf, Boundary, Group, Trees, none, more, Chronology, count, datings_of, datings_of_all}
+use Rattle.cg_model.specs.Limits.{groups_of, IsWithinLimits, AreInPlace, IsInRange, AreInRange}
 use Rattle.cg_form.specs.Text.{IsEnd}
-use Rattle.cg_form.specs.Model.{Member, text_of, leaf_of, IsTitle, title, name_of, chronology_of, IsModel, HasNoModel}
-use Rattle.cg_form.specs.Pieces.{after, text_at}
-use Rattle.cg_form.specs.Reading.{members_at, title_at, head_at, is_tail, are_distinct, model_at}
+use Rattle.cg_form.specs.Model.{IsStated, IsWritten, AreWritten, text_of, text_of_all, IsModel, HasNoModel, IsAlone}
+use Rattle.cg_form.specs.Reading.{is_past, is_end, statement_at, statements_at, alone_at}
 use Rattle.cg_form.proofs.StepLemmas.{none-some, passes, parts, if-some, and-both, is-either}
-use Rattle.cg_form.proofs.PieceLemmas.{after-is, text-append, text-is}
-use Rattle.cg_form.proofs.MembersLemmas.{members-append, members-are}
+use Rattle.cg_form.proofs.TreeLemmas.{statement-append, all-append, statement-is, statements-are}
 
--- a test that fails
-not-true : (b : Bool) → not b ≡ true → b ≡ false
-not-true true h = absurd cc
-not-true false h = refl
+-- no statement follows at the end of a file
+past-end : (end : List ℕ) → IsEnd end → is_past end ≡ true
+past-end end (inl e) = rw e refl
+past-end end (inr e) = rw e refl
 
--- equal texts
-same-bytes : (xs ys : List ℕ) → xs ≡ ys → bytes_eq xs ys ≡ true
-same-bytes xs ys e = (bytes_eq-Decides xs ys).1 e
+-- the end is tested
+end-test : (end : List ℕ) → IsEnd end → is_end end ≡ true
+end-test end (inl e) = rw e refl
+end-test end (inr e) = rw e refl
 
--- texts that are not
-other-bytes : (xs ys : List ℕ) → xs ≢ ys → bytes_eq xs ys ≡ false
-other-bytes xs ys h = elim (is-either (bytes_eq xs ys)) [ inl e ↦ absurd (h ((bytes_eq-Decides xs ys).0 e)) | inr e ↦ e ]
-
--- a test of what members mean
-pub list_any_map : {A B : Type 0} (p : B → Bool) (f : A → B) (xs : List A) → list_any p (map f xs) ≡ list_any (λ x. p (f x)) xs
-list_any_map p f [] = refl
-list_any_map p f (x ∷ xs) = ap (λ b. p (f x) || b) (list_any_map p f xs)
-
--- the names of leaves
-abbrev names : List (Name × Dating) → List Name
-names leaves = map (λ leaf. leaf.0) leaves
-
--- the test of distinct names
-are-distinct : (leaves : List (Name × Dating)) → are_distinct leaves ≡ true → AllPairs (λ a b. a ≢ b) (names leaves)
-are-distinct [] h = λ i j d below within. absurd (omega arith)
-are-distinct (leaf ∷ leaves) h =
-    let both = and-both (not (list_any (λ other. bytes_eq leaf.0 other.0) leaves)) (are_distinct leaves) h in
-    let none : list_any (λ other. bytes_eq leaf.0 other) (names leaves) ≡ false = list_any_map (λ other. bytes_eq leaf.0 other) (λ (l : Name × Dating). l.0) leaves ∙ not-true _ both.0 in
-    let others : All (λ other. leaf.0 ≢ other) (names leaves) = λ k d within e.
-    let found : list_any (λ other. bytes_eq leaf.0 other) (names leaves) ≡ true = list_any_at (λ other. bytes_eq leaf.0 other) (names leaves) k d within (same-bytes leaf.0 _ e) in absurd cc in
-    AllPairs-cons (λ a b. a ≢ b) leaf.0 (names leaves) others (are-distinct leaves both.1)
-
--- the other way
-distinct-are : (leaves : List (Name × Dating)) → AllPairs (λ a b. a ≢ b) (names leaves) → are_distinct leaves ≡ true
-distinct-are [] h = refl
-distinct-are (leaf ∷ leaves) h =
-    let none : list_any (λ other. bytes_eq leaf.0 other) (names leaves) ≡ false =
-    list_any_none (λ other. bytes_eq leaf.0 other) (names leaves) (λ k d within. other-bytes leaf.0 _ (h 0 (suc k) d (omega arith) (omega arith))) in
-    let so : list_any (λ (other : Name × Dating). bytes_eq leaf.0 other.0) leaves ≡ false = sym (list_any_map (λ other. bytes_eq leaf.0 other) (λ (l : Name × Dating). l.0) leaves) ∙ none in
-    let others : are_distinct leaves ≡ true = distinct-are leaves (λ i j d below within. h (suc i) (suc j) d (omega arith) (omega arith)) in
-    rw (so, others) refl
-
--- members and their leaves have the same names
-names-kept : (members : List Member) → names (map leaf_of members) ≡ map (λ member. member.name) members
-names-kept [] = refl
-names-kept (m ∷ ms) = ap (λ ns. m.name ∷ ns) (names-kept ms)
-
--- What stands behind the members.
-record IsTail (bytes : List ℕ) : Type 0 where
-  end : List ℕ
-  good : IsEnd end
-  form : bytes ≡ codes "};" ++ end
-
--- it is what was read
-tail-is : (bytes : List ℕ) → is_tail bytes ≡ true → IsTail bytes
-unfolding is_tail
-tail-is bytes h =
-    elim (is-either (bytes_eq bytes (codes "};"))) [
-      | inl e ↦ record { end = []; good = inl refl; form = (bytes_eq-Decides bytes (codes "};")).0 e }
-      | inr e ↦ let line : bytes_eq bytes (codes "};\n") ≡ true = rw e at h in
-          record { end = codes "\n"; good = inr refl; form = (bytes_eq-Decides bytes (codes "};\n")).0 line }
+-- and what passes the test is one
+test-end : (end : List ℕ) → is_end end ≡ true → IsEnd end
+test-end end h =
+    elim (is-either (bytes_eq end [])) [
+      | inl e ↦ inl ((bytes_eq-Decides end []).0 e)
+      | inr e ↦ let line : bytes_eq end (codes "\n") ≡ true = rw e at h in inr ((bytes_eq-Decides end (codes "\n")).0 line)
     ]
-
--- and is read
-is-tail : (end : List ℕ) → IsEnd end → is_tail (codes "};" ++ end) ≡ true
-unfolding is_tail
-is-tail end (inl e) = rw e refl
-is-tail end (inr e) = rw e refl
-
--- a title is read up to a parenthesis
-title-append : (named : Option Name) (rest : List ℕ) → IsTitle named → title_at (title named ++ (codes ")" ++ rest)) ≡ Some (name_of named, codes ")" ++ rest)
-title-append None rest h = refl
-title-append (Some name) rest h = text-append name (codes ")" ++ rest) h
-
--- What was read is a title.
-record IsTitleAt (bytes : List ℕ) (name : Name) (rest : List ℕ) : Type 0 where
-  named : Option Name
-  good : IsTitle named
-  says : name_of named ≡ name
-  form : bytes ≡ title named ++ rest
-
--- what was read is a title
-title-is : (bytes : List ℕ) (name : Name) (rest : List ℕ) → title_at bytes ≡ Some (name, rest) → IsTitleAt bytes name rest
-title-is bytes name rest h =
-    elim (is-either (slice_index bytes 0 == 34)) [
-      | inl e ↦ let read : text_at bytes ≡ Some (name, rest) = rw e at h in
-          let text = text-is bytes name rest read in
-          record { named = Some name; good = text.0; says = refl; form = text.1 }
-      | inr e ↦ let none : ◌≡◌ {A = Option (Name × List ℕ)} (Some ([], bytes)) (Some (name, rest)) = rw e at h in
-          let pair = parts [] name bytes rest none in
-          record { named = None; good = tt; says = pair.0; form = pair.1 }
-    ]
-
--- the head of a Sequence is read
-head-append : (named : Option Name) (body : List ℕ) → IsTitle named → head_at (codes "Sequence(" ++ (title named ++ (codes "){" ++ body))) ≡ Some (name_of named, body)
-unfolding head_at
-head-append named body h =
-    let titled : title_at (title named ++ (codes ")" ++ (codes "{" ++ body))) ≡ Some (name_of named, codes ")" ++ (codes "{" ++ body)) = title-append named (codes "{" ++ body) h in
-    rw titled refl
-
--- What was read is the head of a Sequence.
-record IsHeadAt (bytes : List ℕ) (name : Name) (body : List ℕ) : Type 0 where
-  named : Option Name
-  good : IsTitle named
-  says : name_of named ≡ name
-  form : bytes ≡ codes "Sequence(" ++ (title named ++ (codes "){" ++ body))
-
--- what was read is the head of a Sequence
-head-is : (bytes : List ℕ) (name : Name) (body : List ℕ) → head_at bytes ≡ Some (name, body) → IsHeadAt bytes name body
-unfolding head_at
-head-is bytes name body h =
-    passes _ (after (codes "Sequence(") bytes) _ (name, body) h (λ behind word h1.
-    passes _ (title_at behind) _ (name, body) h1 (λ (name', after_name) titled h2.
-    passes _ (after (codes "){") after_name) _ (name, body) h2 (λ inside opened h3.
-    let pair = parts name' name inside body h3 in
-    let is_body : inside ≡ body = pair.1 in
-    let titles = title-is behind name' after_name titled in
-    let begins : bytes ≡ codes "Sequence(" ++ behind = after-is (codes "Sequence(") bytes behind word in
-    let opens : after_name ≡ codes "){" ++ inside = after-is (codes "){") after_name inside opened in
-    record {
-      named = titles.named;
-      good = titles.good;
-      says = titles.says ∙ pair.0;
-      form = begins ∙ ap (λ t. codes "Sequence(" ++ t) (titles.form ∙ ap (λ t. title titles.named ++ t) (opens ∙ ap (λ t. codes "){" ++ t) is_body));
-    })))
-
--- the parts of a model file behind its first word
-model-parts : (name body end : List ℕ) → (((name ++ codes "){") ++ body) ++ codes "};") ++ end ≡ name ++ (codes "){" ++ (body ++ (codes "};" ++ end)))
-model-parts name body end =
-    append_assoc ((name ++ codes "){") ++ body) (codes "};") end ∙ append_assoc (name ++ codes "){") body (codes "};" ++ end)
-    ∙ append_assoc name (codes "){") (body ++ (codes "};" ++ end))
 
 -- a model file is read as what it says
-pub model-read : (bytes : List ℕ) (chronology : Chronology) → (h : IsModel bytes chronology) → model_at bytes ≡ Some (name_of h.named, map leaf_of h.members)
-unfolding model_at
+pub model-read : (bytes : List ℕ) (chronology : Chronology) → (h : IsModel bytes chronology) → statements_at 16 Phase bytes ≡ Some (chronology.top, h.end)
 model-read bytes chronology h =
-    let leaves = map leaf_of h.members in
-    let written = flat_map text_of h.members in
-    let body = written ++ (codes "};" ++ h.end) in
-    let whole : bytes ≡ codes "Sequence(" ++ (title h.named ++ (codes "){" ++ body)) = h.form ∙ ap (λ t. codes "Sequence(" ++ t) (model-parts (title h.named) written h.end) in
-    let head : head_at bytes ≡ Some (name_of h.named, body) = ap head_at whole ∙ head-append h.named body h.text in
-    let read : members_at 100 [] body ≡ Some (leaves, codes "};" ++ h.end) = members-append 100 [] h.members (codes ";" ++ h.end) h.each h.few in
-    let ended : is_tail (codes "};" ++ h.end) ≡ true = is-tail h.end h.ended in
-    let distinct : are_distinct leaves ≡ true = distinct-are leaves (subst (λ ns. AllPairs (λ a b. a ≢ b) ns) (sym (names-kept h.members)) h.distinct) in
-    rw (head, read, ended, distinct) refl
+    ap (statements_at 16 Phase) h.form
+    ∙ all-append chronology.top 16 Phase h.end h.written h.bounded.placed h.bounded.limits.depth (omega (arith, h.bounded.limits.events, h.bounded.limits.groups)) (past-end h.end h.ended)
 
--- what is read is what the file says
-pub read-model : (bytes : List ℕ) (name : Name) (leaves : List (Name × Dating)) → model_at bytes ≡ Some (name, leaves) → IsModel bytes (chronology_of name leaves)
-unfolding model_at
-read-model bytes name leaves h =
-    passes _ (head_at bytes) _ (name, leaves) h (λ (name', inside) headed h1.
-    passes _ (members_at 100 [] inside) _ (name, leaves) h1 (λ (leaves', behind) read h2.
-    let tested = if-some (is_tail behind && are_distinct leaves') (name', leaves') (name, leaves) h2 in
-    let tests = and-both (is_tail behind) _ tested.0 in
-    let pair = parts name' name leaves' leaves (ap (λ p. Some p) tested.1) in
-    let head = head-is bytes name' inside headed in
-    let members = members-are 100 [] inside leaves' behind read in
-    let tail = tail-is behind tests.0 in
-    let said : map leaf_of members.members ≡ leaves' = members.says in
-    let written = flat_map text_of members.members in
-    let is_body : inside ≡ written ++ (codes "};" ++ tail.end) = members.form ∙ ap (λ t. written ++ t) tail.form in
+-- what a statement may say is in range
+pub stated-range : (dating : Dating) → IsStated dating → IsInRange dating
+stated-range Free h = tt
+stated-range (Exact year) h = h
+stated-range (Normal year error) h = h
+stated-range (Carbon age error) h = h.1
+
+-- so are the datings of what is written
+mutual
+  pub written-range : (t : Tree) → IsWritten t → All IsInRange (datings_of t)
+  written-range (Leaf name dating) h = All-cons IsInRange dating [] (stated-range dating h.1) (All-nil IsInRange)
+  written-range (Boundary name) h = All-cons IsInRange Free [] tt (All-nil IsInRange)
+  written-range (Group kind name ts) h = written-ranges ts h.1
+
+  pub written-ranges : (ts : Trees) → AreWritten ts → AreInRange ts
+  written-ranges none h = All-nil IsInRange
+  written-ranges (more t ts) h = All-append IsInRange (datings_of t) (datings_of_all ts) (written-range t h.0) (written-ranges ts h.1)
+
+-- what was read stands in place
+pub read-placed : (bytes : List ℕ) (top : Trees) (rest : List ℕ) → statements_at 16 Phase bytes ≡ Some (top, rest) → AreInPlace Phase top
+read-placed bytes top rest h = let is = statements-are 16 Phase bytes top rest h in subst (AreInPlace Phase) is.says is.placed
+
+-- and is in range
+pub read-ranged : (bytes : List ℕ) (top : Trees) (rest : List ℕ) → statements_at 16 Phase bytes ≡ Some (top, rest) → AreInRange top
+read-ranged bytes top rest h = let is = statements-are 16 Phase bytes top rest h in subst AreInRange is.says (written-ranges is.members is.written)
+
+-- what is read, within the limits, is what the file says
+pub read-model : (bytes : List ℕ) (top : Trees) (rest : List ℕ) → statements_at 16 Phase bytes ≡ Some (top, rest) → is_end rest ≡ true → IsWithinLimits top
+    → IsModel bytes (record { curve = None; top = top })
+read-model bytes top rest h ended within =
+    let is = statements-are 16 Phase bytes top rest h in
     record {
-      named = head.named;
-      members = members.members;
-      end = tail.end;
-      text = head.good;
-      each = members.good;
-      few = members.few;
-      distinct = subst (λ names. AllPairs (λ a b. a ≢ b) names) (ap names (sym said) ∙ names-kept members.members) (are-distinct leaves' tests.1);
-      ended = tail.good;
-      form = head.form ∙ ap (λ t. codes "Sequence(" ++ (title head.named ++ (codes "){" ++ t))) is_body ∙ ap (λ t. codes "Sequence(" ++ t) (sym (model-parts (title head.named) written tail.end));
-      meaning = ap₂ chronology_of (sym pair.0 ∙ sym head.says) (sym pair.1 ∙ sym said);
-    }))
+      end = rest;
+      written = subst AreWritten is.says is.written;
+      bounded = record { limits = within; placed = read-placed bytes top rest h; ranged = read-ranged bytes top rest h };
+      curve = refl;
+      ended = test-end rest ended;
+      form = is.form ∙ ap (λ ts. text_of_all ts ++ rest) is.says;
+    }
 
--- a file without a head is not read
-pub headless : (bytes : List ℕ) → None ≡ head_at bytes → model_at bytes ≡ None
-unfolding model_at
-headless bytes head = rw (← head) refl
+-- a file that is not read says nothing
+pub not-read : (bytes : List ℕ) → statements_at 16 Phase bytes ≡ None → HasNoModel bytes
+not-read bytes e = λ chronology h. none-some (chronology.top, h.end) (sym e ∙ model-read bytes chronology h)
 
--- nor is one without a body
-pub bodiless : (bytes : List ℕ) (name : Name) (body : List ℕ) → ◌≡◌ {A = Option (Name × List ℕ)} (Some (name, body)) (head_at bytes) → members_at 100 [] body ≡ None → model_at bytes ≡ None
-unfolding model_at
-bodiless bytes name body head read = rw (← head, read) refl
+-- nor does one with another end
+pub not-ended : (bytes : List ℕ) (top : Trees) (rest : List ℕ) → statements_at 16 Phase bytes ≡ Some (top, rest) → is_end rest ≡ false → HasNoModel bytes
+not-ended bytes top rest read e = λ chronology h.
+    let pair = parts chronology.top top h.end rest (sym (model-read bytes chronology h) ∙ read) in
+    let yes : is_end rest ≡ true = ap is_end (sym pair.1) ∙ end-test h.end h.ended in absurd cc
 
--- one with both is read by its end
-pub by_pieces : (bytes : List ℕ) (name : Name) (body : List ℕ) (leaves : List (Name × Dating)) (rest : List ℕ) (whole : Bool)
-    → ◌≡◌ {A = Option (Name × List ℕ)} (Some (name, body)) (head_at bytes) → members_at 100 [] body ≡ Some (leaves, rest)
-    → whole ≡ (is_tail rest && are_distinct leaves) → model_at bytes ≡ cond whole (Some (name, leaves)) None
-unfolding model_at
-by_pieces bytes name body leaves rest whole head read test = rw (← head, read, test) refl
+-- nor one past the limits
+pub not-within : (bytes : List ℕ) (top : Trees) (rest : List ℕ) → statements_at 16 Phase bytes ≡ Some (top, rest) → (IsWithinLimits top → ⊥) → HasNoModel bytes
+not-within bytes top rest read wrong = λ chronology h.
+    let pair = parts chronology.top top h.end rest (sym (model-read bytes chronology h) ∙ read) in
+    wrong (subst IsWithinLimits pair.0 h.bounded.limits)
+
+-- equal in both parts
+same-chronology : (x y : Chronology) → x.curve ≡ y.curve → x.top ≡ y.top → x ≡ y
+same-chronology x y c t = ap₂ (λ (curve : Option Name) (top : Trees). record { curve = curve; top = top }) c t
 
 -- a file says one chronology at most
 pub one-model : (bytes : List ℕ) (x y : Chronology) → IsModel bytes x → IsModel bytes y → x ≡ y
 one-model bytes x y h k =
-    let same_read : ◌≡◌ {A = Option (Name × List (Name × Dating))} (Some (name_of h.named, map leaf_of h.members)) (Some (name_of k.named, map leaf_of k.members)) =
-    sym (model-read bytes x h) ∙ model-read bytes y k in
-    let pair = parts (name_of h.named) (name_of k.named) (map leaf_of h.members) (map leaf_of k.members) same_read in
-    h.meaning ∙ ap₂ chronology_of pair.0 pair.1 ∙ sym k.meaning
+    let pair = parts x.top y.top h.end k.end (sym (model-read bytes x h) ∙ model-read bytes y k) in
+    same-chronology x y (h.curve ∙ sym k.curve) pair.0
 
--- a file that is not read says nothing
-pub no-model : (bytes : List ℕ) → model_at bytes ≡ None → HasNoModel bytes
-no-model bytes e = λ chronology h. none-some (name_of h.named, map leaf_of h.members) (sym e ∙ model-read bytes chronology h)
+-- a statement that stands alone is read as it stands
+pub alone-append : (t : Tree) (rest : List ℕ) → IsAlone t → alone_at (text_of t ++ rest) ≡ Some (t, rest)
+unfolding alone_at
+alone-append t rest h =
+    let events : count t ≤ 100 = omega (arith, h.limits.events) in
+    let groups : groups_of t ≤ 60 = omega (arith, h.limits.groups) in
+    let read = statement-append t 16 Sequence rest h.written h.placed (omega (arith, h.limits.depth)) (omega arith) in
+    let few : nat_le (count t) 100 ≡ true = le-leb _ _ events in
+    let some : nat_le (groups_of t) 60 ≡ true = le-leb _ _ groups in
+    rw (read, few, some) refl
+
+-- What was read is a statement that stands alone.
+pub record IsAloneAt (bytes : List ℕ) (t : Tree) (rest : List ℕ) : Type 0 where
+  pub alone : IsAlone t
+  pub form : bytes ≡ text_of t ++ rest
+
+-- what was read is one
+pub alone-is : (bytes : List ℕ) (t : Tree) (rest : List ℕ) → alone_at bytes ≡ Some (t, rest) → IsAloneAt bytes t rest
+unfolding alone_at
+alone-is bytes t rest h =
+    passes _ (statement_at 16 Sequence bytes) _ (t, rest) h (λ (u, others) read h1.
+    let tested = if-some (nat_le (count u) 100 && nat_le (groups_of u) 60) (u, others) (t, rest) h1 in
+    let both = and-both (nat_le (count u) 100) (nat_le (groups_of u) 60) tested.0 in
+    let is_tree : u ≡ t = ap (λ (p : Tree × List ℕ). p.0) tested.1 in
+    let is_rest : others ≡ rest = ap (λ (p : Tree × List ℕ). p.1) tested.1 in
+    let is = statement-is 16 Sequence bytes u others read in
+    let events : count u ≤ 100 = leb-true _ _ both.0 in
+    let groups : groups_of u ≤ 60 = leb-true _ _ both.1 in
+    let within : IsWithinLimits (more u none) = record { events = omega arith; groups = omega arith; depth = omega (arith, is.deep) } in
+    subst₂ (IsAloneAt bytes) is_tree is_rest (record {
+      alone = record { written = is.written; placed = is.placed; limits = within };
+      form = is.form;
+    }))

@@ -71,3 +71,11 @@ number-is most bytes n rest few h =
     let is_number : number_of digits ≡ n = pair.0 in
     let is_rest : drop len bytes ≡ rest = pair.1 in
     (cc (ap decimal is_number), omega (arith, small, is_number))
+
+-- digits that are written plainly write a small number
+pub number-small : (most : ℕ) (bytes digits : List ℕ) → digits ≡ take (prefix_len is_ascii_digit bytes) bytes → is_plain most digits ≡ true → number_of digits < 10 ^ most
+number-small most bytes digits e h =
+    let bounds = and-both (nat_le 1 (length digits) && nat_le (length digits) most) _ h in
+    let sizes = and-both (nat_le 1 (length digits)) _ bounds.0 in
+    let plain : list_all is_ascii_digit digits ≡ true = ap (λ t. list_all is_ascii_digit t) e ∙ prefix-passes is_ascii_digit bytes in
+    digits_value_short own digits most plain (leb-true _ _ sizes.1)

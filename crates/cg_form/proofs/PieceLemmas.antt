@@ -1,5 +1,5 @@
 -- Words and texts: each is cut off exactly where it stands.
-use Rattle.std.proofs.Common.{bytes_eq, All, IsUtf8, ◌≢◌, Bor, MatchOption, option_map, ◌-◌, ◌≡◌, ℕ, suc, ◌+◌, ◌<◌, ◌≤◌, inl, inr, Bool, true, false, ◌&&◌, ◌==◌, nat_le, List, [], ◌∷◌, ◌++◌, length, take, drop, codes, Option, Some, None, refl, sym, ap, ◌∙◌, subst, arith, append_assoc, eqb-true, le-leb, leb-true, take-append-drop}
+use Rattle.std.proofs.Common.{All, IsUtf8, ◌≢◌, Bor, MatchOption, option_map, ◌≡◌, ℕ, suc, ◌+◌, ◌<◌, ◌≤◌, inl, inr, Bool, true, ◌&&◌, ◌==◌, nat_le, List, [], ◌∷◌, ◌++◌, length, take, drop, codes, Option, Some, None, refl, sym, ap, ◌∙◌, subst, arith, append_assoc, eqb-true, le-leb, leb-true, take-append-drop}
 use Rattle.std.specs.List.{prefix_len, list_all}
 use Rattle.std.specs.Char.{is_ascii_alphanumeric}
 use Rattle.std.proofs.lemmas.List.Folds.{length-prefix_len}
@@ -8,7 +8,7 @@ use Rattle.std.proofs.lemmas.List.Elements.{All-nil, All-cons}
 use Rattle.std.proofs.lemmas.Str.{IsUtf8-from_ascii}
 use Rattle.std.proofs.lemmas.Str.Ascii.{IsAscii-from_all}
 use Rattle.cg_form.specs.Text.{IsText, quoted}
-use Rattle.cg_form.specs.Pieces.{after, before, run_at, letters_at, text_at}
+use Rattle.cg_form.specs.Pieces.{after, run_at, letters_at, text_at}
 use Rattle.cg_form.proofs.StepLemmas.{passes, parts, if-some, and-both, is-either, same}
 
 -- a word that stands in front is passed
@@ -37,14 +37,6 @@ after-none word bytes (Some rest) e h = absurd (h rest (after-is word bytes rest
 pub after-strip : (word bytes : List ℕ) (r : Option (Bor (List ℕ))) → MatchOption r ((rest : List ℕ) → bytes ≢ word ++ rest) (λ x. bytes ≡ word ++ x.now) → option_map (λ x. x.now) r ≡ after word bytes
 after-strip word bytes None h = after-none word bytes (after word bytes) refl h
 after-strip word bytes (Some x) h = sym (ap (λ t. after word t) h ∙ after-append word x.now)
-
--- and without the word at the end
-pub before-strip : (word bytes : List ℕ) (r : Option (Bor (List ℕ)))
-    → MatchOption r (bytes_eq (drop (length bytes - length word) bytes) word ≡ false)
-    (λ x. (bytes_eq (drop (length bytes - length word) bytes) word ≡ true) × (x.now ≡ take (length bytes - length word) bytes) × (length x.now + length word ≡ length bytes))
-    → option_map (λ x. x.now) r ≡ before word bytes
-before-strip word bytes None h = rw h refl
-before-strip word bytes (Some x) h = rw h.0 (ap (λ t. Some t) h.1)
 
 -- what passes a test, before what does not begin so
 pub prefix-stops : (p : ℕ → Bool) (xs ys : List ℕ) → list_all p xs ≡ true → prefix_len p ys ≡ 0 → prefix_len p (xs ++ ys) ≡ length xs

@@ -1,6 +1,7 @@
 -- Steps of a reader that may fail, and tests.
-use Rattle.std.proofs.Common.{Result, Err, ◌≡◌, ℕ, ◌⊎◌, inl, inr, Bool, true, false, cond, ◌&&◌, ◌==◌, Option, Some, None, refl, ap, eq-eqb}
-use Rattle.cg_form.specs.Pieces.{◌>>=◌}
+use Rattle.std.proofs.Common.{Result, Err, ◌≡◌, ℕ, ◌⊎◌, inl, inr, Bool, true, false, cond, ◌&&◌, ◌==◌, List, Option, Some, None, refl, ap, eq-eqb}
+use Rattle.cg_form.specs.Pieces.{◌>>=◌, behind_or}
+use Rattle.cg_form.specs.Reading.{or_else}
 
 -- a step of a reader gave something, so the step before it did
 pub passes : {A B : Type 0} (G : Type 0) (o : Option A) (f : A → Option B) (y : B) → (o >>= f) ≡ Some y → ((x : A) → o ≡ Some x → f x ≡ Some y → G) → G
@@ -37,3 +38,14 @@ is-either false = inr refl
 -- a byte is itself
 pub same : (c : ℕ) → (c == c) ≡ true
 same c = eq-eqb c c refl
+
+-- what was read was read behind the word, or in the other way
+pub branch : {A : Type 0} (G : Type 0) (o : Option (List ℕ)) (read : List ℕ → Option A) (other : Option A) (y : A) → behind_or o read other ≡ Some y
+    → ((behind : List ℕ) → o ≡ Some behind → read behind ≡ Some y → G) → (other ≡ Some y → G) → G
+branch G (Some behind) read other y h first next = first behind refl h
+branch G None read other y h first next = next h
+
+-- what was read was read in one way, or in the other
+pub either-way : {A : Type 0} (G : Type 0) (one other : Option A) (y : A) → or_else one other ≡ Some y → (one ≡ Some y → G) → (other ≡ Some y → G) → G
+either-way G (Some x) other y h first next = first h
+either-way G None other y h first next = next h

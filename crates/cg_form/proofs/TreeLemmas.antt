@@ -1,125 +1,207 @@
--- The tree of events that were read.
-use Rattle.std.proofs.Common.{◌≡◌, ℕ, suc, ◌≤◌, List, [], ◌∷◌, length, map, All, Option, Some, None, ℤ, pos, negsuc, refl, sym, ap, ◌∙◌, subst, subst₂, append-nil, arith}
-use Rattle.std.proofs.lemmas.Int.{ints}
-use Rattle.std.proofs.lemmas.List.{length-map}
-use Rattle.std.proofs.lemmas.List.Elements.{All-nil, All-cons}
-use Rattle.cg_num.specs.Year.{IsYear, IsCalendarYear, bp_of_calendar}
-use Rattle.cg_meaning.specs.Tree as spec
-use Rattle.cg_meaning.specs.Tree.{Name, Dating, Trees, Chronology, count_all, datings_of_all}
-use Rattle.cg_meaning.specs.Sequence.{leaves, IsPlain, IsPlainSequence}
-use Rattle.cg_model.specs.Dating.{dating_of}
-use Rattle.cg_model.specs.Node.{tree_of, trees, trees_of, items_of}
-use Rattle.cg_model.specs.Limits.{groups_in, depth_in, IsWithinLimits, AreInPlace, IsInRange, AreInRange}
-use Rattle.cg_model.specs.declared.node.Members.{Members}
-use Rattle.cg_model.proofs.NodeLemmas.{trees_of-all}
-use Rattle.cg_form.specs.declared.reading.Event.{Event}
-use Rattle.cg_form.specs.Event.{leaf_of, CanBeBuilt}
-use Rattle.cg_form.specs.Model as form
-use Rattle.cg_form.specs.Reading.{model_at}
-use Rattle.cg_form.proofs.StepLemmas.{parts}
-use Rattle.cg_form.proofs.ModelLemmas.{model-read, read-model}
+-- Statements one inside another: each is read as it stands.
+use Rattle.std.proofs.Common.{◌≡◌, ℕ, zero, suc, ◌+◌, ◌≤◌, inl, inr, true, false, List, ◌++◌, codes, Option, Some, None, refl, sym, ap, ◌∙◌, subst₂, arith, append_assoc}
+use Rattle.cg_meaning.specs.Tree.{Dating, Free, Exact, Normal, Carbon, Kind, Sequence, Phase, After, Before, Name, Tree, Leaf, Boundary, Group, Trees, none, more, count, count_all}
+use Rattle.cg_model.specs.Node.{trees_with}
+use Rattle.cg_model.specs.Limits.{groups_of, groups_in, depth_of, depth_in, IsInPlace, AreInPlace}
+use Rattle.cg_form.specs.Model.{IsTitle, title, word_of_kind, IsWritten, AreWritten, text_of, text_of_all}
+use Rattle.cg_form.specs.Pieces.{◌>>=◌, after}
+use Rattle.cg_form.specs.Reading.{leaf_at, boundary_at, head_at, is_past, repeat_at, group_at, statement_at, statements_at}
+use Rattle.cg_form.proofs.StepLemmas.{none-some, passes, parts, is-either, either-way}
+use Rattle.cg_form.proofs.PieceLemmas.{after-is}
+use Rattle.cg_form.proofs.StatementLemmas.{IsStatementAt, leaf-append, leaf-is, boundary-append, boundary-is, boundary-no_leaf, group-no_leaf, group-no_boundary, head-append, head-is}
 
--- leaves one by one
-trees-leaves : (events : List Event) → trees (map (λ event. spec.Leaf event.name (dating_of event.dating)) events) ≡ leaves (map leaf_of events)
-trees-leaves [] = refl
-trees-leaves (e ∷ es) = ap (λ ts. spec.more (spec.Leaf e.name (dating_of e.dating)) ts) (trees-leaves es)
+-- trees behind others
+abbrev pub joined : Trees → Trees → Trees
+joined none ts = ts
+joined (more u us) ts = more u (joined us ts)
 
--- nodes that are leaves are leaves
-pub members-leaves : (members : Members) (yielded events : List Event) → map tree_of (items_of members) ≡ map (λ event. spec.Leaf event.name (dating_of event.dating)) yielded → yielded ≡ events
-    → trees_of members ≡ leaves (map leaf_of events)
-members-leaves members yielded events h e = trees_of-all members ∙ ap trees h ∙ trees-leaves yielded ∙ ap (λ es. leaves (map leaf_of es)) e
+-- with none behind them
+joined-none : (us : Trees) → joined us none ≡ us
+joined-none none = refl
+joined-none (more u us) = ap (λ x. more u x) (joined-none us)
 
--- one Sequence of leaves, alone
-abbrev pub alone : Name → List (Name × Dating) → Trees
-alone name ls = spec.more (spec.Group spec.Sequence name (leaves ls)) spec.none
+-- with one more between
+joined-with : (us : Trees) (t : Tree) (ts : Trees) → joined (trees_with us t) ts ≡ joined us (more t ts)
+joined-with none t ts = refl
+joined-with (more u us) t ts = ap (λ x. more u x) (joined-with us t ts)
 
--- each leaf is an event
-count-leaves : (ls : List (Name × Dating)) → count_all (leaves ls) ≡ length ls
-count-leaves [] = refl
-count-leaves (l ∷ ls) = omega (arith, count-leaves ls)
+-- a step where no statement follows
+repeat-past : (read : List ℕ → Option (Tree × List ℕ)) (left : ℕ) (before : Trees) (bytes : List ℕ) → is_past bytes ≡ true → repeat_at read left before bytes ≡ Some (before, bytes)
+unfolding repeat_at
+repeat-past read zero before bytes h = refl
+repeat-past read (suc left) before bytes h = rw h refl
 
--- none is a group
-groups-leaves : (ls : List (Name × Dating)) → groups_in (leaves ls) ≡ 0
-groups-leaves [] = refl
-groups-leaves (l ∷ ls) = omega (arith, groups-leaves ls)
+-- or where one is read
+repeat-next : (read : List ℕ → Option (Tree × List ℕ)) (left : ℕ) (before : Trees) (bytes : List ℕ) (t : Tree) (rest : List ℕ) → is_past bytes ≡ false → read bytes ≡ Some (t, rest)
+    → repeat_at read (suc left) before bytes ≡ repeat_at read left (trees_with before t) rest
+unfolding repeat_at
+repeat-next read left before bytes t rest h e = rw (h, e) refl
 
--- none stands deeper
-depth-leaves : (ls : List (Name × Dating)) → depth_in (leaves ls) ≤ 1
-depth-leaves [] = omega arith
-depth-leaves (l ∷ ls) = omega (arith, depth-leaves ls)
+-- a leaf is a statement
+by-leaf : (depth : ℕ) (parent : Kind) (bytes : List ℕ) (t : Tree) (rest : List ℕ) → leaf_at bytes ≡ Some (t, rest) → statement_at (suc depth) parent bytes ≡ Some (t, rest)
+unfolding statement_at
+by-leaf depth parent bytes t rest h = rw h refl
 
--- so they are within the limits
-pub leaves-within : (name : Name) (ls : List (Name × Dating)) → length ls ≤ 100 → IsWithinLimits (alone name ls)
-leaves-within name ls few = record {
-  events = omega (arith, count-leaves ls);
-  groups = omega (arith, groups-leaves ls);
-  depth = omega (arith, depth-leaves ls);
-}
+-- so is a Boundary
+by-boundary : (depth : ℕ) (parent : Kind) (bytes : List ℕ) (t : Tree) (rest : List ℕ) → leaf_at bytes ≡ None → boundary_at parent bytes ≡ Some (t, rest)
+    → statement_at (suc depth) parent bytes ≡ Some (t, rest)
+unfolding statement_at
+by-boundary depth parent bytes t rest e h = rw (e, h) refl
 
--- there are no Boundaries
-leaves-placed : (ls : List (Name × Dating)) → AreInPlace spec.Sequence (leaves ls)
-leaves-placed [] = tt
-leaves-placed (l ∷ ls) = (tt, leaves-placed ls)
+-- and a group
+by-group : (depth : ℕ) (parent : Kind) (bytes : List ℕ) → leaf_at bytes ≡ None → boundary_at parent bytes ≡ None
+    → statement_at (suc depth) parent bytes ≡ group_at (statement_at depth) bytes
+unfolding statement_at
+by-group depth parent bytes e f = rw (e, f) refl
 
--- so all stand in place
-pub alone-placed : (name : Name) (ls : List (Name × Dating)) → AreInPlace spec.Phase (alone name ls)
-alone-placed name ls = (leaves-placed ls, tt)
+-- the parts of a group
+group-parts : (word name body rest : List ℕ) → ((((word ++ codes "(") ++ name) ++ codes "){") ++ body ++ codes "};") ++ rest ≡ (word ++ codes "(") ++ (name ++ (codes "){" ++ (body ++ (codes "};" ++ rest))))
+group-parts word name body rest = simp append_assoc
 
--- the ranges are those of the leaves
-pub alone-ranged : (name : Name) (ls : List (Name × Dating)) → AreInRange (leaves ls) → AreInRange (alone name ls)
-alone-ranged name ls h = subst (λ ds. All IsInRange ds) (sym (append-nil (datings_of_all (leaves ls)))) h
+-- a group is read by its statements
+group-append : (read : Kind → List ℕ → Option (Tree × List ℕ)) (kind : Kind) (name : Name) (ts : Trees) (rest : List ℕ) → IsTitle name
+    → repeat_at (read kind) 160 none (text_of_all ts ++ (codes "};" ++ rest)) ≡ Some (ts, codes "};" ++ rest)
+    → group_at read (text_of (Group kind name ts) ++ rest) ≡ Some (Group kind name ts, rest)
+unfolding group_at
+group-append read kind name ts rest good h =
+    let body = text_of_all ts ++ (codes "};" ++ rest) in
+    let head = head-append kind name body good in
+    ap (group_at read) (group-parts (word_of_kind kind) (title name) (text_of_all ts) rest) ∙ rw (head, h) refl
 
--- a calendar year is a year
-year-ranged : (year : ℤ) → IsCalendarYear year → IsYear (bp_of_calendar year)
-year-ranged (pos n) h = (omega (arith, ints, h), omega (arith, ints, h))
-year-ranged (negsuc n) h = (omega (arith, ints, h), omega (arith, ints, h))
+-- no statement begins as what stands behind statements does
+not-past : (t : Tree) (rest : List ℕ) → is_past (text_of t ++ rest) ≡ false
+not-past (Leaf name dating) rest = leaf dating
+  where
+    leaf : (d : Dating) → is_past (text_of (Leaf name d) ++ rest) ≡ false
+    leaf Free = refl
+    leaf (Exact year) = refl
+    leaf (Normal year error) = refl
+    leaf (Carbon age error) = refl
+not-past (Boundary name) rest = refl
+not-past (Group Sequence name ts) rest = refl
+not-past (Group Phase name ts) rest = refl
+not-past (Group After name ts) rest = refl
+not-past (Group Before name ts) rest = refl
 
--- of a member too
-dating-ranged : (year : Option ℤ) → form.IsYear year → IsInRange (form.dating_of year)
-dating-ranged None h = tt
-dating-ranged (Some year) h = year-ranged year h
+-- one statement or more
+some-nodes : (t : Tree) → 1 ≤ count t + groups_of t
+some-nodes (Leaf name dating) = omega arith
+some-nodes (Boundary name) = omega arith
+some-nodes (Group kind name ts) = omega arith
 
--- the members of a file have years in range
-pub members-ranged : (members : List form.Member) → All form.IsMember members → AreInRange (leaves (map form.leaf_of members))
-members-ranged [] h = All-nil IsInRange
-members-ranged (m ∷ ms) h =
-    All-cons IsInRange (form.dating_of m.year) (datings_of_all (leaves (map form.leaf_of ms)))
-    (dating-ranged m.year (h 0 m (omega arith)).year) (members-ranged ms (λ k d below. h (suc k) d (omega arith)))
+mutual
+  -- a statement is read as it stands
+  pub statement-append : (t : Tree) (depth : ℕ) (parent : Kind) (rest : List ℕ) → IsWritten t → IsInPlace parent t → depth_of t ≤ depth → count t + groups_of t ≤ 160
+      → statement_at depth parent (text_of t ++ rest) ≡ Some (t, rest)
+  statement-append (Leaf name dating) zero parent rest h p d n = absurd (omega arith)
+  statement-append (Leaf name dating) (suc depth) parent rest h p d n =
+      by-leaf depth parent (text_of (Leaf name dating) ++ rest) (Leaf name dating) rest (leaf-append name dating rest h.0 h.1)
+  statement-append (Boundary name) zero parent rest h p d n = absurd (omega arith)
+  statement-append (Boundary name) (suc depth) parent rest h p d n =
+      by-boundary depth parent (text_of (Boundary name) ++ rest) (Boundary name) rest (boundary-no_leaf name rest) (boundary-append parent name rest h p)
+  statement-append (Group kind name ts) zero parent rest h p d n = absurd (omega arith)
+  statement-append (Group kind name ts) (suc depth) parent rest h p d n =
+      by-group depth parent (text_of (Group kind name ts) ++ rest) (group-no_leaf kind name ts rest) (group-no_boundary parent kind name ts rest)
+      ∙ group-append (statement_at depth) kind name ts rest h.0
+      (statements-append ts depth kind 160 none (codes "};" ++ rest) h.1 p (omega arith) (omega arith) (omega arith) refl)
 
--- no dating of a file has an error
-dating-plain : (year : Option ℤ) → IsPlain (form.dating_of year)
-dating-plain None = tt
-dating-plain (Some year) = tt
+  -- so are several, up to where none follows
+  pub statements-append : (ts : Trees) (depth : ℕ) (parent : Kind) (left : ℕ) (before : Trees) (rest : List ℕ) → AreWritten ts → AreInPlace parent ts → depth_in ts ≤ depth
+      → count_all ts + groups_in ts ≤ left → left ≤ 160 → is_past rest ≡ true → repeat_at (statement_at depth parent) left before (text_of_all ts ++ rest) ≡ Some (joined before ts, rest)
+  statements-append none depth parent left before rest h p d n few e =
+      repeat-past (statement_at depth parent) left before rest e ∙ ap (λ us. Some (us, rest)) (sym (joined-none before))
+  statements-append (more t ts) depth parent zero before rest h p d n few e = absurd (omega (arith, some-nodes t))
+  statements-append (more t ts) depth parent (suc left) before rest h p d n few e =
+      let behind = text_of_all ts ++ rest in
+      let read = statement_at depth parent in
+      let first : read (text_of t ++ behind) ≡ Some (t, behind) = statement-append t depth parent behind h.0 p.0 (omega arith) (omega arith) in
+      ap (repeat_at read (suc left) before) (append_assoc (text_of t) (text_of_all ts) rest)
+      ∙ repeat-next read left before (text_of t ++ behind) t behind (not-past t behind) first
+      ∙ statements-append ts depth parent left (trees_with before t) rest h.1 p.1 (omega arith) (omega (arith, some-nodes t)) (omega arith) e
+      ∙ ap (λ us. Some (us, rest)) (joined-with before t ts)
 
--- nor has one of its members
-members-plain : (members : List form.Member) → All (λ (leaf : Name × Dating). IsPlain leaf.1) (map form.leaf_of members)
-members-plain [] = All-nil (λ (leaf : Name × Dating). IsPlain leaf.1)
-members-plain (m ∷ ms) = All-cons (λ (leaf : Name × Dating). IsPlain leaf.1) (form.leaf_of m) (map form.leaf_of ms) (dating-plain m.year) (members-plain ms)
+-- What was read are statements behind those before.
+pub record AreStatementsAt (depth : ℕ) (parent : Kind) (before : Trees) (bytes : List ℕ) (all : Trees) (rest : List ℕ) : Type 0 where
+  pub members : Trees
+  pub says : joined before members ≡ all
+  pub written : AreWritten members
+  pub placed : AreInPlace parent members
+  pub deep : depth_in members ≤ depth
+  pub form : bytes ≡ text_of_all members ++ rest
 
--- a file says one Sequence of plain leaves
-pub model-plain : (bytes : List ℕ) (chronology : Chronology) → form.IsModel bytes chronology → IsPlainSequence chronology
-model-plain bytes chronology h = record {
-  name = form.name_of h.named;
-  members = map form.leaf_of h.members;
-  top = ap (λ c. c.top) h.meaning;
-  few = omega (arith, h.few, length-map h.members form.leaf_of);
-  plain = members-plain h.members;
-}
+-- no more of them
+none-at : (depth : ℕ) (parent : Kind) (before : Trees) (bytes : List ℕ) (all : Trees) (rest : List ℕ) → ◌≡◌ {A = Option (Trees × List ℕ)} (Some (before, bytes)) (Some (all, rest))
+    → AreStatementsAt depth parent before bytes all rest
+none-at depth parent before bytes all rest h =
+    let pair = parts before all bytes rest h in
+    record { members = none; says = joined-none before ∙ pair.0; written = tt; placed = tt; deep = omega arith; form = pair.1 }
 
--- a title is short enough for a name
-title-short : (named : Option Name) → form.IsTitle named → length (form.name_of named) ≤ 120
-title-short None h = omega arith
-title-short (Some name) h = omega (arith, h.short)
+-- one, and then others
+one-more : (depth : ℕ) (parent : Kind) (before : Trees) (bytes : List ℕ) (t : Tree) (behind : List ℕ) (all : Trees) (rest : List ℕ)
+    → IsStatementAt depth parent bytes t behind → AreStatementsAt depth parent (trees_with before t) behind all rest → AreStatementsAt depth parent before bytes all rest
+one-more depth parent before bytes t behind all rest first others =
+    record {
+      members = more t others.members;
+      says = sym (joined-with before t others.members) ∙ others.says;
+      written = (first.written, others.written);
+      placed = (first.placed, others.placed);
+      deep = omega (arith, first.deep, others.deep);
+      form = first.form ∙ ap (λ x. text_of t ++ x) others.form ∙ sym (append_assoc (text_of t) (text_of_all others.members) rest);
+    }
 
--- what was read can be built
-pub model-built : (bytes : List ℕ) (name : Name) (ls : List (Name × Dating)) → model_at bytes ≡ Some (name, ls) → CanBeBuilt name ls
-model-built bytes name ls read =
-    let h = read-model bytes name ls read in
-    let same_read : ◌≡◌ {A = Option (Name × List (Name × Dating))} (Some (form.name_of h.named, map form.leaf_of h.members)) (Some (name, ls)) = sym (model-read bytes (form.chronology_of name ls) h) ∙ read in
-    let pair = parts (form.name_of h.named) name (map form.leaf_of h.members) ls same_read in
-    let built : CanBeBuilt (form.name_of h.named) (map form.leaf_of h.members) = record {
-      short = title-short h.named h.text;
-      few = omega (arith, h.few, length-map h.members form.leaf_of);
-      ranged = members-ranged h.members h.each;
-    } in
-    subst₂ CanBeBuilt pair.0 pair.1 built
+-- what was read are statements, where each was
+repeat-are : (depth : ℕ) (parent : Kind) (read : List ℕ → Option (Tree × List ℕ))
+    → ((bytes : List ℕ) (t : Tree) (rest : List ℕ) → read bytes ≡ Some (t, rest) → IsStatementAt depth parent bytes t rest)
+    → (left : ℕ) (before : Trees) (bytes : List ℕ) (all : Trees) (rest : List ℕ) → repeat_at read left before bytes ≡ Some (all, rest) → AreStatementsAt depth parent before bytes all rest
+unfolding repeat_at
+repeat-are depth parent read each zero before bytes all rest h = none-at depth parent before bytes all rest h
+repeat-are depth parent read each (suc left) before bytes all rest h =
+    elim (is-either (is_past bytes)) [
+      | inl e ↦ none-at depth parent before bytes all rest (rw e at h)
+      | inr e ↦ let go : (read bytes >>= λ first. repeat_at read left (trees_with before first.0) first.1) ≡ Some (all, rest) = rw e at h in
+          passes _ (read bytes) _ (all, rest) go (λ (t, behind) first h1.
+          one-more depth parent before bytes t behind all rest (each bytes t behind first) (repeat-are depth parent read each left (trees_with before t) behind all rest h1))
+    ]
+
+-- what was read is a group, where each of its statements was read
+group-is : (depth : ℕ) (parent : Kind) (read : Kind → List ℕ → Option (Tree × List ℕ))
+    → ((kind : Kind) (bytes : List ℕ) (t : Tree) (rest : List ℕ) → read kind bytes ≡ Some (t, rest) → IsStatementAt depth kind bytes t rest)
+    → (bytes : List ℕ) (t : Tree) (rest : List ℕ) → group_at read bytes ≡ Some (t, rest) → IsStatementAt (suc depth) parent bytes t rest
+unfolding group_at
+group-is depth parent read each bytes t rest h =
+    passes _ (head_at bytes) _ (t, rest) h (λ ((kind, name), body) headed h1.
+    passes _ (repeat_at (read kind) 160 none body) _ (t, rest) h1 (λ (ts, behind) inside h2.
+    passes _ (after (codes "};") behind) _ (t, rest) h2 (λ others closed h3.
+    let pair = parts (Group kind name ts) t others rest h3 in
+    let head = head-is bytes kind name body headed in
+    let all = repeat-are depth kind (read kind) (each kind) 160 none body ts behind inside in
+    let is_all : all.members ≡ ts = all.says in
+    let ends : behind ≡ codes "};" ++ others = after-is (codes "};") behind others closed in
+    let whole : bytes ≡ (word_of_kind kind ++ codes "(") ++ (title name ++ (codes "){" ++ (text_of_all all.members ++ (codes "};" ++ others)))) =
+    head.form ∙ ap (λ x. (word_of_kind kind ++ codes "(") ++ (title name ++ (codes "){" ++ x))) (all.form ∙ ap (λ x. text_of_all all.members ++ x) ends) in
+    subst₂ (IsStatementAt (suc depth) parent bytes) (ap (λ us. Group kind name us) is_all ∙ pair.0) pair.1 (record {
+      written = (head.good, all.written);
+      placed = all.placed;
+      deep = omega (arith, all.deep);
+      form = whole ∙ sym (group-parts (word_of_kind kind) (title name) (text_of_all all.members) others);
+    }))))
+
+-- what was read is a statement
+pub statement-is : (depth : ℕ) (parent : Kind) (bytes : List ℕ) (t : Tree) (rest : List ℕ) → statement_at depth parent bytes ≡ Some (t, rest) → IsStatementAt depth parent bytes t rest
+unfolding statement_at
+statement-is zero parent bytes t rest h = absurd (none-some _ h)
+statement-is (suc depth) parent bytes t rest h =
+    either-way _ (leaf_at bytes) _ (t, rest) h (leaf-is depth parent bytes t rest) (λ h1.
+    either-way _ (boundary_at parent bytes) _ (t, rest) h1 (boundary-is depth parent bytes t rest)
+    (group-is depth parent (statement_at depth) (statement-is depth) bytes t rest))
+
+-- what was read are statements
+pub statements-are : (depth : ℕ) (parent : Kind) (bytes : List ℕ) (all : Trees) (rest : List ℕ) → statements_at depth parent bytes ≡ Some (all, rest) → AreStatementsAt depth parent none bytes all rest
+unfolding statements_at
+statements-are depth parent bytes all rest h = repeat-are depth parent (statement_at depth parent) (statement-is depth parent) 160 none bytes all rest h
+
+-- statements are read as they stand, up to where none follows
+pub all-append : (ts : Trees) (depth : ℕ) (parent : Kind) (rest : List ℕ) → AreWritten ts → AreInPlace parent ts → depth_in ts ≤ depth → count_all ts + groups_in ts ≤ 160 → is_past rest ≡ true
+    → statements_at depth parent (text_of_all ts ++ rest) ≡ Some (ts, rest)
+unfolding statements_at
+all-append ts depth parent rest h p d n e = statements-append ts depth parent 160 none rest h p d n (omega arith) e

@@ -1,6 +1,6 @@
 pub mod Text
 pub mod Model
-pub mod Script
+pub mod Kind
 pub mod Pieces
+pub mod Values
 pub mod Reading
-pub mod Event

@@ -1,76 +1,93 @@
--- The plain Form of a model file: one Sequence of at most a hundred dates, without blanks. chron's own.
-use Rattle.std.specs.Prelude.{◌≡◌, ◌≢◌, ℕ, ◌≤◌, List, [], ◌++◌, length, map, All, AllPairs, codes, Option, Some, None, ℤ}
-use Rattle.std.specs.List.{flat_map}
+-- The plain Form of a model file: statements one behind another, without blanks. chron's own.
+use Rattle.std.specs.Prelude.{◌≡◌, ◌⊎◌, List, [], ◌∷◌, ◌++◌, codes, ℕ, ℤ, pos, ◌≤ℤ◌, ◌-ℤ◌, int_le, if◌then◌else◌, None}
 use Rattle.std.specs.Fmt.{signed_decimal}
-use Rattle.cg_num.specs.Year.{IsCalendarYear, bp_of_calendar}
-use Rattle.cg_meaning.specs.Tree.{Dating, Free, Exact, Name, Group, Sequence, none, more, Chronology}
-use Rattle.cg_meaning.specs.Sequence.{leaves}
+use Rattle.cg_num.specs.Year.{IsYear}
+use Rattle.cg_num.specs.Written.{decimal_text}
+use Rattle.cg_meaning.specs.Tree.{Dating, Free, Exact, Normal, Carbon, Kind, Sequence, Phase, After, Before, Name, Tree, Leaf, Boundary, Group, Trees, none, more, Chronology}
+use Rattle.cg_model.specs.Limits as limits
 use Rattle.cg_form.specs.Text.{IsText, quoted, IsEnd}
 
--- A member: its name, and its calendar year where it has one.
-pub record Member : Type 0 where
-  pub name : Name
-  pub year : Option ℤ
+-- what a statement may say of an event: values in their ranges, and no age below 0
+abbrev pub IsStated : Dating → Type 0
+IsStated Free = Unit {0}
+IsStated (Exact year) = IsYear year
+IsStated (Normal year error) = limits.IsNormal year error
+IsStated (Carbon age error) = (pos 0 ≤ℤ age) × limits.IsCarbon age error
 
--- a year is a calendar year, where there is one
-abbrev pub IsYear : Option ℤ → Type 0
-IsYear None = Unit {0}
-IsYear (Some year) = IsCalendarYear year
+-- the calendar year of a cal BP year: AD years are positive, BC years negative
+abbrev pub calendar_of : ℤ → ℤ
+calendar_of bp = if int_le bp (pos 1949) then pos 1950 -ℤ bp else pos 1949 -ℤ bp
 
--- Its name is a text, and its year a calendar year.
-pub record IsMember (member : Member) : Type 0 where
-  pub text : IsText member.name
-  pub year : IsYear member.year
+-- the word of a statement with such a dating
+abbrev pub word_of : Dating → List ℕ
+word_of Free = codes "Date"
+word_of (Exact year) = codes "C_Date"
+word_of (Normal year error) = codes "C_Date"
+word_of (Carbon age error) = codes "R_Date"
 
--- a member as it stands in the file
-abbrev pub statement : Name → Option ℤ → List ℕ
-statement name None = codes "Date(" ++ quoted name ++ codes ");"
-statement name (Some year) = codes "C_Date(" ++ quoted name ++ codes "," ++ signed_decimal year ++ codes ");"
+-- its values: calendar years, and ages and errors in years with no needless zero, so that each value has one text
+abbrev pub values_text : Dating → List ℕ
+values_text Free = []
+values_text (Exact year) = signed_decimal (calendar_of year)
+values_text (Normal year error) = signed_decimal (calendar_of year) ++ codes "," ++ decimal_text error
+values_text (Carbon age error) = decimal_text age ++ codes "," ++ decimal_text error
 
--- the same, of a member
-abbrev pub text_of : Member → List ℕ
-text_of member = statement member.name member.year
+-- what stands between the name and the values
+abbrev pub comma_of : Dating → List ℕ
+comma_of Free = []
+comma_of (Exact year) = codes ","
+comma_of (Normal year error) = codes ","
+comma_of (Carbon age error) = codes ","
 
--- the title of the Sequence, its name, may be left out
-abbrev pub IsTitle : Option Name → Type 0
-IsTitle None = Unit {0}
-IsTitle (Some name) = IsText name
+-- a statement of a dating without a name
+abbrev pub nameless : Dating → List ℕ
+nameless dating = word_of dating ++ codes "(" ++ values_text dating ++ codes ");"
 
--- the title as it stands in the file
-abbrev pub title : Option Name → List ℕ
-title None = []
-title (Some name) = quoted name
+-- the name of a group: a text, or none
+abbrev pub IsTitle : Name → Type 0
+IsTitle name = (name ≡ []) ⊎ IsText name
 
--- the name of the Sequence, which is empty where none stands
-abbrev pub name_of : Option Name → Name
-name_of None = []
-name_of (Some name) = name
+-- the same as it stands in the file
+abbrev pub title : Name → List ℕ
+title [] = []
+title (c ∷ cs) = quoted (c ∷ cs)
 
--- what is known of a member by itself
-abbrev pub dating_of : Option ℤ → Dating
-dating_of None = Free
-dating_of (Some year) = Exact (bp_of_calendar year)
+abbrev pub word_of_kind : Kind → List ℕ
+word_of_kind Sequence = codes "Sequence"
+word_of_kind Phase = codes "Phase"
+word_of_kind After = codes "After"
+word_of_kind Before = codes "Before"
 
--- the leaf that a member is
-abbrev pub leaf_of : Member → Name × Dating
-leaf_of member = (member.name, dating_of member.year)
+-- names are texts, and a statement may say its dating
+abbrev mutual
+  pub IsWritten : Tree → Type 0
+  IsWritten (Leaf name dating) = IsText name × IsStated dating
+  IsWritten (Boundary name) = IsText name
+  IsWritten (Group kind name ts) = IsTitle name × AreWritten ts
 
--- one Sequence of leaves, and no curve
-abbrev pub chronology_of : Name → List (Name × Dating) → Chronology
-chronology_of name members = record { curve = None; top = more (Group Sequence name (leaves members)) none }
+  pub AreWritten : Trees → Type 0
+  AreWritten none = Unit {0}
+  AreWritten (more t ts) = IsWritten t × AreWritten ts
+
+-- a statement as it stands in the file
+abbrev mutual
+  pub text_of : Tree → List ℕ
+  text_of (Leaf name dating) = word_of dating ++ codes "(" ++ quoted name ++ comma_of dating ++ values_text dating ++ codes ");"
+  text_of (Boundary name) = codes "Boundary(" ++ quoted name ++ codes ");"
+  text_of (Group kind name ts) = word_of_kind kind ++ codes "(" ++ title name ++ codes "){" ++ text_of_all ts ++ codes "};"
+
+  pub text_of_all : Trees → List ℕ
+  text_of_all none = []
+  text_of_all (more t ts) = text_of t ++ text_of_all ts
 
 -- The bytes are in the Form of a model file, and this is what they say.
 pub record IsModel (bytes : List ℕ) (chronology : Chronology) : Type 0 where
-  pub named : Option Name
-  pub members : List Member
   pub end : List ℕ
-  pub text : IsTitle named
-  pub each : All IsMember members
-  pub few : length members ≤ 100
-  pub distinct : AllPairs (λ a b. a ≢ b) (map (λ member. member.name) members)
+  pub written : AreWritten chronology.top
+  pub bounded : limits.IsModel chronology.top
+  pub curve : chronology.curve ≡ None
   pub ended : IsEnd end
-  pub form : bytes ≡ codes "Sequence(" ++ title named ++ codes "){" ++ flat_map text_of members ++ codes "};" ++ end
-  pub meaning : chronology ≡ chronology_of (name_of named) (map leaf_of members)
+  pub form : bytes ≡ text_of_all chronology.top ++ end
 
 -- the bytes are not in the Form of a model file
 abbrev pub HasNoModel : List ℕ → Type 0
@@ -79,3 +96,9 @@ HasNoModel bytes = (chronology : Chronology) → ¬ IsModel bytes chronology
 -- bytes say one chronology at most
 abbrev pub IsOneModel : Type 0
 IsOneModel = (bytes : List ℕ) (x y : Chronology) → IsModel bytes x → IsModel bytes y → x ≡ y
+
+-- A statement that stands alone: in place under a Sequence, and within the limits of a model.
+pub record IsAlone (t : Tree) : Type 0 where
+  pub written : IsWritten t
+  pub placed : limits.IsInPlace Sequence t
+  pub limits : limits.IsWithinLimits (more t none)

@@ -1,5 +1,5 @@
 -- How the pieces of a file are cut off its front: each with what comes after it, or none.
-use Rattle.std.specs.Prelude.{bytes_eq, ℕ, ◌+◌, ◌-◌, ◌*◌, Bool, not, ◌==◌, ◌&&◌, ◌||◌, List, [], ◌∷◌, length, take, drop, codes, Option, Some, None, nat_le, if◌then◌else◌, fold, slice_index}
+use Rattle.std.specs.Prelude.{ℕ, ◌+◌, ◌-◌, ◌*◌, Bool, not, ◌==◌, ◌&&◌, ◌||◌, List, [], ◌∷◌, length, take, drop, codes, Option, Some, None, nat_le, if◌then◌else◌, fold, slice_index}
 use Rattle.std.specs.List.{prefix_len}
 use Rattle.std.specs.Char.{is_ascii_digit, is_ascii_alphanumeric}
 use Rattle.cg_meaning.specs.Tree.{Name}
@@ -15,6 +15,11 @@ abbrev pub after : List ℕ → List ℕ → Option (List ℕ)
 after [] bytes = Some bytes
 after (c ∷ word) [] = None
 after (c ∷ word) (b ∷ bytes) = if b == c then after word bytes else None
+
+-- what stands behind a word is read so, and where the word does not stand in front, the other is taken
+abbrev pub behind_or : {A : Type 0} → Option (List ℕ) → (List ℕ → Option A) → Option A → Option A
+behind_or (Some behind) read other = read behind
+behind_or None read other = other
 
 -- the bytes that pass a test, up to the first that does not: at least one and so many at most
 abbrev pub run_at : (ℕ → Bool) → ℕ → List ℕ → Option (List ℕ × List ℕ)
@@ -45,9 +50,3 @@ abbrev pub number_at : ℕ → List ℕ → Option (ℕ × List ℕ)
 number_at most bytes =
     let len = prefix_len is_ascii_digit bytes in
     if is_plain most (take len bytes) then Some (number_of (take len bytes), drop len bytes) else None
-
--- what stands before this word at the end
-abbrev pub before : List ℕ → List ℕ → Option (List ℕ)
-before word bytes =
-    let front = length bytes - length word in
-    if bytes_eq (drop front bytes) word then Some (take front bytes) else None

@@ -1,83 +1,97 @@
--- How a model file and a script are read from front to back: what they say, or none.
-use Rattle.std.specs.Prelude.{ℕ, zero, suc, Bool, true, not, ◌==◌, ◌&&◌, ◌||◌, List, [], ◌∷◌, ◌++◌, codes, Option, Some, None, ℤ, pos, negsuc, neg_ℤ, int_le, if◌then◌else◌, bytes_eq, slice_index, unwrap_or}
-use Rattle.std.specs.List.{list_any}
-use Rattle.std.specs.Ordering.{int_eq}
-use Rattle.cg_num.specs.Year.{bp_of_calendar}
-use Rattle.cg_meaning.specs.Tree.{Dating, Free, Exact, Name}
-use Rattle.cg_form.specs.Pieces.{◌>>=◌, after, before, text_at, number_at}
+-- How a model file is read from front to back: what it says, or none.
+use Rattle.std.specs.Prelude.{ℕ, zero, suc, Bool, true, ◌==◌, ◌&&◌, ◌||◌, nat_le, List, [], ◌∷◌, codes, Option, Some, None, if◌then◌else◌, bytes_eq, slice_index}
+use Rattle.cg_meaning.specs.Tree.{Dating, Kind, Sequence, Phase, After, Before, Name, Tree, Leaf, Boundary, Group, Trees, none, count}
+use Rattle.cg_model.specs.Limits.{groups_of}
+use Rattle.cg_model.specs.Node.{trees_with}
+use Rattle.cg_form.specs.Pieces.{◌>>=◌, after, behind_or, text_at}
+use Rattle.cg_form.specs.Values.{free_at, dated_at, carbon_at}
 
--- a whole number: the one behind a minus, where one stands, or the one in front
-abbrev pub signed_from : Option (List ℕ) → List ℕ → Option (ℤ × List ℕ)
-signed_from None bytes = number_at 5 bytes >>= λ number. Some (pos number.0, number.1)
-signed_from (Some behind) bytes = number_at 5 behind >>= λ number. Some (neg_ℤ (pos number.0), number.1)
+-- one way, or else another
+abbrev pub or_else : {A : Type 0} → Option A → Option A → Option A
+or_else (Some x) other = Some x
+or_else None other = other
 
--- a whole number with a minus or without
-abbrev pub signed_at : List ℕ → Option (ℤ × List ℕ)
-signed_at bytes = signed_from (after (codes "-") bytes) bytes
+-- a name, a comma or nothing, and the values of a dating
+abbrev pub named_at : List ℕ → (List ℕ → Option (Dating × List ℕ)) → List ℕ → Option (Tree × List ℕ)
+named_at comma read bytes =
+    text_at bytes >>= λ name. after comma name.1 >>= λ behind. read behind >>= λ dating. Some (Leaf name.0 dating.0, dating.1)
 
--- the dating of a calendar year
-abbrev pub exact_year : ℤ → Option Dating
-exact_year year =
-    if not (int_eq year (pos 0)) && int_le (negsuc 58050) year && int_le year (pos 2950) then Some (Exact (bp_of_calendar year)) else None
+-- what stands behind the word of a leaf
+abbrev pub date_at : List ℕ → Option (Tree × List ℕ)
+date_at bytes = named_at [] free_at bytes
 
--- what stands behind `Date(`: a name alone
-abbrev pub date_at : List ℕ → Option ((Name × Dating) × List ℕ)
-date_at bytes = text_at bytes >>= λ name. after (codes ");") name.1 >>= λ rest. Some ((name.0, Free), rest)
+abbrev pub c_date_at : List ℕ → Option (Tree × List ℕ)
+c_date_at bytes = named_at (codes ",") dated_at bytes
 
--- what stands behind `C_Date(`: a name and a year
-abbrev pub c_date_at : List ℕ → Option ((Name × Dating) × List ℕ)
-c_date_at bytes =
-    text_at bytes >>= λ name. after (codes ",") name.1 >>= λ behind. signed_at behind >>= λ year.
-    exact_year year.0 >>= λ dating. after (codes ");") year.1 >>= λ rest. Some ((name.0, dating), rest)
+abbrev pub r_date_at : List ℕ → Option (Tree × List ℕ)
+r_date_at bytes = named_at (codes ",") carbon_at bytes
 
--- a member: the name and the dating of its leaf
-abbrev pub member_from : Option (List ℕ) → List ℕ → Option ((Name × Dating) × List ℕ)
-member_from (Some behind) bytes = date_at behind
-member_from None bytes = after (codes "C_Date(") bytes >>= λ behind. c_date_at behind
+-- a leaf
+unfoldable pub leaf_at : List ℕ → Option (Tree × List ℕ)
+leaf_at bytes =
+    behind_or (after (codes "Date(") bytes) date_at
+    (behind_or (after (codes "C_Date(") bytes) c_date_at
+    (behind_or (after (codes "R_Date(") bytes) r_date_at None))
 
--- the same from the front
-abbrev pub member_at : List ℕ → Option ((Name × Dating) × List ℕ)
-member_at bytes = member_from (after (codes "Date(") bytes) bytes
+-- a Boundary, which only a Sequence may hold
+unfoldable pub boundary_at : Kind → List ℕ → Option (Tree × List ℕ)
+boundary_at Sequence bytes =
+    after (codes "Boundary(") bytes >>= λ behind. text_at behind >>= λ name. after (codes ");") name.1 >>= λ rest. Some (Boundary name.0, rest)
+boundary_at Phase bytes = None
+boundary_at After bytes = None
+boundary_at Before bytes = None
 
--- members behind these ones up to a closing brace, so many at most
-unfoldable pub members_at : ℕ → List (Name × Dating) → List ℕ → Option (List (Name × Dating) × List ℕ)
-members_at zero members bytes = Some (members, bytes)
-members_at (suc left) members bytes =
-    if slice_index bytes 0 == 125 then Some (members, bytes)
-    else (member_at bytes >>= λ member. members_at left (members ++ member.0 ∷ []) member.1)
+-- the word of a group
+unfoldable pub kind_at : List ℕ → Option (Kind × List ℕ)
+kind_at bytes =
+    behind_or (after (codes "Sequence(") bytes) (λ rest. Some (Sequence, rest))
+    (behind_or (after (codes "Phase(") bytes) (λ rest. Some (Phase, rest))
+    (behind_or (after (codes "After(") bytes) (λ rest. Some (After, rest))
+    (behind_or (after (codes "Before(") bytes) (λ rest. Some (Before, rest)) None)))
 
--- the name of a Sequence, or none before another byte than a quote
+-- the name of a group, or none before another byte than a quote
 abbrev pub title_at : List ℕ → Option (Name × List ℕ)
 title_at bytes = if slice_index bytes 0 == 34 then text_at bytes else Some ([], bytes)
 
--- the name of the Sequence, up to its brace
-unfoldable pub head_at : List ℕ → Option (Name × List ℕ)
+-- the kind and the name of a group, up to its brace
+unfoldable pub head_at : List ℕ → Option ((Kind × Name) × List ℕ)
 head_at bytes =
-    after (codes "Sequence(") bytes >>= λ behind. title_at behind >>= λ name. after (codes "){") name.1 >>= λ body. Some (name.0, body)
+    kind_at bytes >>= λ kind. title_at kind.1 >>= λ name. after (codes "){") name.1 >>= λ body. Some ((kind.0, name.0), body)
 
--- what may stand behind the members
-unfoldable pub is_tail : List ℕ → Bool
-is_tail bytes = bytes_eq bytes (codes "};") || bytes_eq bytes (codes "};\n")
+-- where no statement follows: before a closing brace or an LF, or behind the last byte
+abbrev pub is_past : List ℕ → Bool
+is_past [] = true
+is_past (c ∷ cs) = c == 125 || c == 10
 
--- no name is equal to a later one
-abbrev pub are_distinct : List (Name × Dating) → Bool
-are_distinct [] = true
-are_distinct (leaf ∷ leaves) = not (list_any (λ other. bytes_eq leaf.0 other.0) leaves) && are_distinct leaves
+-- statements behind these ones, each read so, up to where none follows, so many at most
+unfoldable pub repeat_at : (List ℕ → Option (Tree × List ℕ)) → ℕ → Trees → List ℕ → Option (Trees × List ℕ)
+repeat_at read zero before bytes = Some (before, bytes)
+repeat_at read (suc left) before bytes =
+    if is_past bytes then Some (before, bytes)
+    else (read bytes >>= λ first. repeat_at read left (trees_with before first.0) first.1)
 
--- the name of the Sequence and its leaves
-unfoldable pub model_at : List ℕ → Option (Name × List (Name × Dating))
-model_at bytes =
-    head_at bytes >>= λ head. members_at 100 [] head.1 >>= λ body.
-    if is_tail body.1 && are_distinct body.0 then Some (head.0, body.0) else None
+-- a group, with its statements read so
+unfoldable pub group_at : (Kind → List ℕ → Option (Tree × List ℕ)) → List ℕ → Option (Tree × List ℕ)
+group_at read bytes =
+    head_at bytes >>= λ head. repeat_at (read (head.0).0) 160 none head.1 >>= λ body.
+    after (codes "};") body.1 >>= λ rest. Some (Group (head.0).0 (head.0).1 body.0, rest)
 
--- a name up to its quote at the end of a script
-unfoldable pub name_in : List ℕ → Option Name
-name_in bytes = before (codes "\"") (unwrap_or (before (codes "\n") bytes) bytes)
+-- a statement of so much depth at most, in a group of this kind
+unfoldable pub statement_at : ℕ → Kind → List ℕ → Option (Tree × List ℕ)
+statement_at zero parent bytes = None
+statement_at (suc depth) parent bytes =
+    or_else (leaf_at bytes) (or_else (boundary_at parent bytes) (group_at (statement_at depth) bytes))
 
--- the years of the grid, and the name of the event
-unfoldable pub script_at : List ℕ → List ℕ → Option ((ℕ × ℕ) × Name)
-script_at model_name bytes =
-    after (codes "open ") bytes >>= λ named. after model_name named >>= λ behind.
-    after (codes "\ngrid ") behind >>= λ years. number_at 5 years >>= λ older.
-    after (codes " ") older.1 >>= λ next. number_at 5 next >>= λ younger.
-    after (codes "\nprint \"") younger.1 >>= λ last. name_in last >>= λ name. Some ((older.0, younger.0), name)
+-- the statements of a group of this kind
+unfoldable pub statements_at : ℕ → Kind → List ℕ → Option (Trees × List ℕ)
+statements_at depth parent bytes = repeat_at (statement_at depth parent) 160 none bytes
+
+-- what may stand behind the last statement
+abbrev pub is_end : List ℕ → Bool
+is_end bytes = bytes_eq bytes [] || bytes_eq bytes (codes "\n")
+
+-- a statement that stands alone
+unfoldable pub alone_at : List ℕ → Option (Tree × List ℕ)
+alone_at bytes =
+    statement_at 16 Sequence bytes >>= λ read.
+    if nat_le (count read.0) 100 && nat_le (groups_of read.0) 60 then Some read else None

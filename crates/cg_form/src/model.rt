@@ -1,58 +1,57 @@
-ghost use Rattle.std.specs.Prelude.{◌≡◌, ◌≤◌, ◌∷◌, [], length, map, All, IfOk, None};
-ghost use Rattle.cg_meaning.specs.Tree as spec;
-ghost use Rattle.cg_meaning.specs.Sequence.{leaves, IsPlainSequence};
-ghost use Rattle.cg_model.specs.Node.{tree_of, trees_of};
-ghost use Rattle.cg_form.specs.Event.{leaf_of, CanBeBuilt};
-ghost use Rattle.cg_form.specs.Model.{chronology_of, IsModel, HasNoModel};
+ghost use Rattle.std.specs.Prelude.{◌≡◌, Some, None, IfOk};
+ghost use Rattle.cg_model.specs.Node.{tree_of};
+ghost use Rattle.cg_form.specs.Model.{IsModel, HasNoModel};
+ghost use Rattle.cg_form.specs.Reading.{is_end, alone_at};
 
 use crate::fault::FormFault;
-use crate::reading::{Event, model_at, name_of};
-use cg_model::{Members, ModelTree, Node};
-use cg_num::NoMemory;
+use crate::kind::Kind;
+use crate::statement::{statement_at, statements_at};
+use cg_model::{ModelTree, Node};
 use std::alloc::Global;
 
-/// The events as leaves.
-fn leaves_of(alloc: Global, events: Vec<Event>) -> Result<Members, NoMemory>
-    ensures { IfOk result (λ members. trees_of members ≡ leaves (map leaf_of events.items)) }
+const MAX_DEPTH: u32 = 16;
+
+const MAX_EVENTS: u32 = 100;
+
+const MAX_GROUPS: u32 = 60;
+
+fn is_end(bytes: &[u8]) -> bool
+    ensures { result ≡ is_end bytes.now }
 {
-    let mut members = Members::new(alloc);
-    for event in events {
-        members.push(Node::Leaf(event.name, event.dating))?;
-    }
-    Ok(members)
+    bytes.is_empty() || bytes == b"\n".as_slice()
 }
 
-/// One Sequence of this name, as the only statement of a model.
-fn one_sequence(alloc: Global, title: &str, members: Members) -> Result<Members, NoMemory>
-    requires { length title.now ≤ 120 }
-    ensures { IfOk result (λ top. trees_of top ≡ spec.more (spec.Group spec.Sequence title.now (trees_of members)) spec.none) }
-{
-    let mut top = Members::new(alloc);
-    top.push(Node::Sequence(name_of(alloc, title)?, members))?;
-    Ok(top)
-}
-
-/// The model of one Sequence of these events.
-fn model_of(alloc: Global, title: &str, events: Vec<Event>) -> Result<ModelTree, NoMemory>
-    requires { CanBeBuilt title.now (map leaf_of events.items) }
-    ensures { IfOk result (λ model. model ≡ chronology_of title.now (map leaf_of events.items)) }
-{
-    let members = leaves_of(alloc, events)?;
-    let top = one_sequence(alloc, title, members)?;
-    match ModelTree::new(None, top) {
-        Ok(model) => Ok(model),
-        Err(_) => unreachable!(),
-    }
-}
-
-/// The model that a file in the plain Form says.
+/// The model that a file in the plain Form says. `Form` comes exactly where it is not in the Form.
 ///
-/// The Form is one Sequence of at most a hundred members, each `Date("N");` or `C_Date("N",Y);`, without a blank.
+/// The Form is a list of statements without a blank between or in them, and one LF behind them or none. A statement is
+/// one of `Date("N");`, `C_Date("N",Y);`, `C_Date("N",Y,E);`, `R_Date("N",A,E);`, `Boundary("N");`, `Sequence(T){..};`,
+/// `Phase(T){..};`, `After(T){..};` and `Before(T){..};`, where T is a name in quotes or nothing. Y is a calendar year;
+/// the age A and the error E are in years, with at most three decimals and no needless zero.
 pub fn read_model(alloc: Global, bytes: &[u8]) -> Result<ModelTree, FormFault>
     ensures ok { IfOk result (λ model. IsModel bytes.now model) }
     ensures form { result ≡ Err FormFault.Form → HasNoModel bytes.now }
-    ensures plain { IfOk result (λ model. IsPlainSequence model) }
 {
-    let (title, events) = model_at(alloc, bytes)?;
-    Ok(model_of(alloc, title, events)?)
+    let (top, rest) = statements_at(alloc, MAX_DEPTH, Kind::Phase, bytes)?;
+    if !is_end(rest) {
+        return Err(FormFault::Form);
+    }
+    match ModelTree::new(None, top) {
+        Ok(model) => Ok(model),
+        Err(_) => Err(FormFault::Form),
+    }
+}
+
+/// A statement that stands alone in front, and what comes after it. It is within the limits of a model, and may be a
+/// Boundary. `Form` comes exactly where none stands there.
+#[tactic(auto, unfolding(crate::specs::Reading::alone_at))]
+pub fn alone_at(alloc: Global, bytes: &[u8]) -> Result<(Node, &[u8]), FormFault>
+    ensures ok { IfOk result (λ read. alone_at bytes.now ≡ Some (tree_of read.0, read.1.now)) }
+    ensures form { result ≡ Err FormFault.Form → alone_at bytes.now ≡ None }
+{
+    let (node, rest) = statement_at(alloc, MAX_DEPTH, Kind::Sequence, bytes)?;
+    if node.events() <= MAX_EVENTS && node.groups() <= MAX_GROUPS {
+        Ok((node, rest))
+    } else {
+        Err(FormFault::Form)
+    }
 }

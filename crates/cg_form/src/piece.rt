@@ -1,20 +1,13 @@
-ghost use Rattle.std.specs.Prelude.{◌<◌, ◌*◌, ◌^◌, ◌≡◌, ◌≤◌, length, IsTrue, ◌↔◌, Some, None, option_map, drop};
+ghost use Rattle.std.specs.Prelude.{◌<◌, ◌*◌, ◌^◌, ◌≡◌, ◌≤◌, length, IsTrue, ◌↔◌, Some, None, option_map, IfSome, drop};
 ghost use Rattle.std.specs.List.{prefix_len};
 ghost use Rattle.std.specs.Char.{is_ascii_digit, is_ascii_alphanumeric};
-ghost use Rattle.cg_form.specs.Pieces.{after, before, letters_at, text_at, number_of, is_plain, number_at};
+ghost use Rattle.cg_form.specs.Pieces.{after, letters_at, text_at, number_of, is_plain, number_at};
 
 /// What comes after the word, where the bytes begin with it.
 pub fn after<'a>(bytes: &'a [u8], word: &[u8]) -> Option<&'a [u8]>
     ensures { option_map (λ rest. rest.now) result ≡ after word.now bytes.now }
 {
     bytes.strip_prefix(word)
-}
-
-/// What comes before the word, where the bytes end with it.
-pub fn before<'a>(bytes: &'a [u8], word: &[u8]) -> Option<&'a [u8]>
-    ensures { option_map (λ front. front.now) result ≡ before word.now bytes.now }
-{
-    bytes.strip_suffix(word)
 }
 
 fn letters_len(bytes: &[u8]) -> usize
@@ -27,7 +20,7 @@ fn letters_len(bytes: &[u8]) -> usize
         .count()
 }
 
-fn digits_len(bytes: &[u8]) -> usize
+pub(crate) fn digits_len(bytes: &[u8]) -> usize
     ensures value { result ≡ prefix_len is_ascii_digit bytes.now }
     ensures within { result ≤ length bytes.now }
 {
@@ -84,7 +77,8 @@ fn is_plain(digits: &[u8], most: usize) -> bool
 pub fn number_at(bytes: &[u8], most: usize) -> Option<(u32, &[u8])>
     requires some { 1 ≤ most }
     requires few { most ≤ 7 }
-    ensures { option_map (λ number. (number.0, number.1.now)) result ≡ number_at most bytes.now }
+    ensures value { option_map (λ number. (number.0, number.1.now)) result ≡ number_at most bytes.now }
+    ensures small { IfSome result (λ number. number.0 < 10 ^ most) }
 {
     let (digits, rest) = bytes.split_at(digits_len(bytes));
     if is_plain(digits, most) {

@@ -8,8 +8,9 @@ use crate::node::{Members, Node};
 impl Node {
     ghost use Rattle.cg_model.specs.Node.{tree_of};
 
+    /// How many events it has. Takes no memory.
     #[cycle(events)]
-    pub(crate) fn events(&self) -> u32
+    pub fn events(&self) -> u32
         ensures { result ≡ min (count (tree_of self.now)) u32.MAX }
     {
         match self {
@@ -21,8 +22,9 @@ impl Node {
         }
     }
 
+    /// How many groups it has, itself included. Takes no memory.
     #[cycle(groups)]
-    pub(crate) fn groups(&self) -> u32
+    pub fn groups(&self) -> u32
         ensures { result ≡ min (groups_of (tree_of self.now)) u32.MAX }
     {
         match self {

@@ -1,23 +1,25 @@
 -- Commands: each is read as it stands, at the end of its line.
-use Rattle.std.proofs.Common.{◌≡◌, ℕ, List, [], ◌∷◌, ◌++◌, codes, Option, Some, None, ℤ, refl, sym, ap, ap₂, ◌∙◌, subst, subst₂, lit≤, append_assoc}
+use Rattle.std.proofs.Common.{◌≡◌, ℕ, List, [], ◌∷◌, ◌++◌, codes, Option, Some, None, ℤ, refl, sym, ap, ◌∙◌, subst₂, lit≤, append_assoc}
 use Rattle.std.specs.List.{prefix_len}
 use Rattle.std.specs.Char.{is_ascii_digit}
 use Rattle.std.specs.Fmt.{signed_decimal}
-use Rattle.cg_meaning.specs.Tree.{Name, Dating, Leaf, Boundary, Group}
-use Rattle.cg_form.specs.Text.{IsText, quoted}
+use Rattle.cg_meaning.specs.Tree.{Name, Dating, Tree}
+use Rattle.cg_form.specs.Text.{quoted}
 use Rattle.cg_form.specs.Pieces.{after, text_at, number_at}
-use Rattle.cg_form.specs.Model as form
-use Rattle.cg_form.specs.Reading.{member_at}
-use Rattle.cg_form.proofs.StepLemmas.{passes, parts, none-some}
+use Rattle.cg_form.specs.Model.{nameless, text_of}
+use Rattle.cg_form.specs.Values.{nameless_at}
+use Rattle.cg_form.specs.Reading.{alone_at}
+use Rattle.cg_form.proofs.StepLemmas.{passes, parts, none-some, branch}
 use Rattle.cg_form.proofs.PieceLemmas.{after-is, text-append, text-is}
 use Rattle.cg_form.proofs.NumberLemmas.{number-append, number-is}
-use Rattle.cg_form.proofs.MemberLemmas.{statement-append, member-is}
+use Rattle.cg_form.proofs.ValueLemmas.{nameless-append, nameless-is}
+use Rattle.cg_form.proofs.ModelLemmas.{alone-append, alone-is}
 use Rattle.cg_sharing.specs.Edit.{Set, Add}
 use Rattle.cg_sharing.specs.Command.{Command, Grid, Open, Take, Undo, Change, Commit, Print}
-use Rattle.cg_script.specs.Form.{is_name_byte, IsStated, year_in, nameless, IsCommand, text_of_command}
-use Rattle.cg_script.specs.Reading.{name_at, year_at, nameless_at, grid_at, open_at, take_at, undo_at, set_at, add_at, commit_at, print_at, behind_or, change_at, command_at}
+use Rattle.cg_script.specs.Form.{is_name_byte, IsCommand, text_of_command}
+use Rattle.cg_script.specs.Reading.{name_at, year_at, grid_at, open_at, take_at, undo_at, set_at, add_at, commit_at, print_at, change_at, other_at, command_at}
 use Rattle.cg_script.proofs.NameLemmas.{name-append, name-is}
-use Rattle.cg_script.proofs.StatementLemmas.{year-append, year-is, stated-year, year-stated, nameless-append, nameless-is}
+use Rattle.cg_script.proofs.YearLemmas.{year-append, year-is}
 
 -- What stands behind a command: nothing, or the end of its line.
 pub data IsEndAt : List ℕ → Type 0 where
@@ -45,36 +47,31 @@ grid-append older younger rest h e =
     rw (first, second) refl
 
 -- a change of a dating
-set-append : (event : Name) (dating : Dating) (rest : List ℕ) → IsCommand (Change (Set event dating)) → set_at (quoted event ++ (codes " " ++ (nameless (year_in dating) ++ rest))) ≡ Some (Change (Set event dating), rest)
+set-append : (event : Name) (dating : Dating) (rest : List ℕ) → IsCommand (Change (Set event dating)) → set_at (quoted event ++ (codes " " ++ (nameless dating ++ rest))) ≡ Some (Change (Set event dating), rest)
 set-append event dating rest h =
-    let named = text-append event (codes " " ++ (nameless (year_in dating) ++ rest)) h.0 in
+    let named = text-append event (codes " " ++ (nameless dating ++ rest)) h.0 in
     let said = nameless-append dating rest h.1 in
     rw (named, said) refl
 
 -- a new member
-add-append : (group name : Name) (dating : Dating) (rest : List ℕ) → IsCommand (Change (Add group (Leaf name dating)))
-    → add_at (quoted group ++ (codes " " ++ (form.statement name (year_in dating) ++ rest))) ≡ Some (Change (Add group (Leaf name dating)), rest)
-add-append group name dating rest h =
-    let named = text-append group (codes " " ++ (form.statement name (year_in dating) ++ rest)) h.0 in
-    let years = stated-year dating (h.1).1 in
-    let said : member_at (form.statement name (year_in dating) ++ rest) ≡ Some ((name, dating), rest) =
-    statement-append name (year_in dating) rest (h.1).0 years.0 ∙ ap (λ d. Some ((name, d), rest)) years.1 in
+add-append : (group : Name) (node : Tree) (rest : List ℕ) → IsCommand (Change (Add group node)) → add_at (quoted group ++ (codes " " ++ (text_of node ++ rest))) ≡ Some (Change (Add group node), rest)
+add-append group node rest h =
+    let named = text-append group (codes " " ++ (text_of node ++ rest)) h.0 in
+    let said = alone-append node rest h.1 in
     rw (named, said) refl
 
 -- a command is read as it stands
 pub command-append : (command : Command) (rest : List ℕ) → IsCommand command → IsEndAt rest → command_at (text_of_command command ++ rest) ≡ Some (command, rest)
-unfolding command_at change_at
+unfolding command_at other_at change_at
 command-append (Grid older younger) rest h e =
     ap command_at (parted (codes "grid ") (signed_decimal older) (codes " ") (signed_decimal younger) rest) ∙ grid-append older younger rest h e
 command-append (Open name) rest h e = rw (name-append name rest h (no-name rest e)) refl
 command-append (Take version) rest h e = rw (number-append 7 version rest (lit≤ tt) (lit≤ tt) h (no-digit rest e)) refl
 command-append Undo rest h e = refl
 command-append (Change (Set event dating)) rest h e =
-    ap command_at (parted (codes "set ") (quoted event) (codes " ") (nameless (year_in dating)) rest) ∙ set-append event dating rest h
-command-append (Change (Add group (Leaf name dating))) rest h e =
-    ap command_at (parted (codes "add ") (quoted group) (codes " ") (form.statement name (year_in dating)) rest) ∙ add-append group name dating rest h
-command-append (Change (Add group (Boundary name))) rest h e = absurd h.1
-command-append (Change (Add group (Group kind name ts))) rest h e = absurd h.1
+    ap command_at (parted (codes "set ") (quoted event) (codes " ") (nameless dating) rest) ∙ set-append event dating rest h
+command-append (Change (Add group node)) rest h e =
+    ap command_at (parted (codes "add ") (quoted group) (codes " ") (text_of node) rest) ∙ add-append group node rest h
 command-append (Commit name) rest h e = rw (name-append name rest h (no-name rest e)) refl
 command-append (Print event) rest h e = rw (text-append event rest h) refl
 
@@ -82,12 +79,6 @@ command-append (Print event) rest h e = rw (text-append event rest h) refl
 pub record IsCommandAt (bytes : List ℕ) (command : Command) (rest : List ℕ) : Type 0 where
   pub good : IsCommand command
   pub form_is : bytes ≡ text_of_command command ++ rest
-
--- a command is read in one of two ways
-branch : (G : Type 0) (o : Option (List ℕ)) (read : List ℕ → Option (Command × List ℕ)) (other : Option (Command × List ℕ)) (y : Command × List ℕ) → behind_or o read other ≡ Some y
-    → ((behind : List ℕ) → o ≡ Some behind → read behind ≡ Some y → G) → (other ≡ Some y → G) → G
-branch G (Some behind) read other y h first next = first behind refl h
-branch G None read other y h first next = next h
 
 -- what was read is a grid
 grid-is : (bytes behind : List ℕ) (command : Command) (rest : List ℕ) → bytes ≡ codes "grid " ++ behind → grid_at behind ≡ Some (command, rest) → IsCommandAt bytes command rest
@@ -143,10 +134,10 @@ set-is bytes behind command rest begins h =
     let first = text-is behind event after_event named in
     let second = nameless-is next dating others said in
     let between : after_event ≡ codes " " ++ next = after-is (codes " ") after_event next blank in
-    let whole : behind ≡ quoted event ++ (codes " " ++ (nameless (year_in dating) ++ others)) = first.1 ∙ ap (λ t. quoted event ++ t) (between ∙ ap (λ t. codes " " ++ t) second.1) in
+    let whole : behind ≡ quoted event ++ (codes " " ++ (nameless dating ++ others)) = first.1 ∙ ap (λ t. quoted event ++ t) (between ∙ ap (λ t. codes " " ++ t) second.1) in
     subst₂ (IsCommandAt bytes) pair.0 pair.1 (record {
       good = (first.0, second.0);
-      form_is = begins ∙ ap (λ t. codes "set " ++ t) whole ∙ sym (parted (codes "set ") (quoted event) (codes " ") (nameless (year_in dating)) others);
+      form_is = begins ∙ ap (λ t. codes "set " ++ t) whole ∙ sym (parted (codes "set ") (quoted event) (codes " ") (nameless dating) others);
     }))))
 
 -- a new member
@@ -154,20 +145,15 @@ add-is : (bytes behind : List ℕ) (command : Command) (rest : List ℕ) → byt
 add-is bytes behind command rest begins h =
     passes _ (text_at behind) _ (command, rest) h (λ (group, after_group) named h1.
     passes _ (after (codes " ") after_group) _ (command, rest) h1 (λ next blank h2.
-    passes _ (member_at next) _ (command, rest) h2 (λ (leaf, others) said h3.
-    let pair = parts (Change (Add group (Leaf leaf.0 leaf.1))) command others rest h3 in
+    passes _ (alone_at next) _ (command, rest) h2 (λ (node, others) said h3.
+    let pair = parts (Change (Add group node)) command others rest h3 in
     let first = text-is behind group after_group named in
-    let member = member-is next leaf others said in
-    let years = year-stated member.member.year member.good.year in
+    let second = alone-is next node others said in
     let between : after_group ≡ codes " " ++ next = after-is (codes " ") after_group next blank in
-    let is_name : member.member.name ≡ leaf.0 = ap (λ (l : Name × Dating). l.0) member.says in
-    let is_dating : form.dating_of member.member.year ≡ leaf.1 = ap (λ (l : Name × Dating). l.1) member.says in
-    let is_year : member.member.year ≡ year_in leaf.1 = sym years.1 ∙ ap year_in is_dating in
-    let second : next ≡ form.statement leaf.0 (year_in leaf.1) ++ others = member.form ∙ ap₂ (λ (n : Name) (y : Option ℤ). form.statement n y ++ others) is_name is_year in
-    let whole : behind ≡ quoted group ++ (codes " " ++ (form.statement leaf.0 (year_in leaf.1) ++ others)) = first.1 ∙ ap (λ t. quoted group ++ t) (between ∙ ap (λ t. codes " " ++ t) second) in
+    let whole : behind ≡ quoted group ++ (codes " " ++ (text_of node ++ others)) = first.1 ∙ ap (λ t. quoted group ++ t) (between ∙ ap (λ t. codes " " ++ t) second.form) in
     subst₂ (IsCommandAt bytes) pair.0 pair.1 (record {
-      good = (first.0, (subst IsText is_name member.good.text, subst IsStated is_dating years.0));
-      form_is = begins ∙ ap (λ t. codes "add " ++ t) whole ∙ sym (parted (codes "add ") (quoted group) (codes " ") (form.statement leaf.0 (year_in leaf.1)) others);
+      good = (first.0, second.alone);
+      form_is = begins ∙ ap (λ t. codes "add " ++ t) whole ∙ sym (parted (codes "add ") (quoted group) (codes " ") (text_of node) others);
     }))))
 
 -- a print
@@ -178,22 +164,41 @@ print-is bytes behind command rest begins h =
     let named = text-is behind event others read in
     subst₂ (IsCommandAt bytes) pair.0 pair.1 (record { good = named.0; form_is = begins ∙ ap (λ t. codes "print " ++ t) named.1 }))
 
--- what was read is a change, a commit or a print
+-- what was read is a change of a dating, a commit or a print
 change-is : (bytes : List ℕ) (command : Command) (rest : List ℕ) → change_at bytes ≡ Some (command, rest) → IsCommandAt bytes command rest
 unfolding change_at
 change-is bytes command rest h =
     branch _ (after (codes "set ") bytes) set_at _ (command, rest) h (λ behind word. set-is bytes behind command rest (after-is (codes "set ") bytes behind word)) (λ h1.
-    branch _ (after (codes "add ") bytes) add_at _ (command, rest) h1 (λ behind word. add-is bytes behind command rest (after-is (codes "add ") bytes behind word)) (λ h2.
-    branch _ (after (codes "commit ") bytes) commit_at _ (command, rest) h2 (λ behind word. commit-is bytes behind command rest (after-is (codes "commit ") bytes behind word)) (λ h3.
-    branch _ (after (codes "print ") bytes) print_at _ (command, rest) h3 (λ behind word. print-is bytes behind command rest (after-is (codes "print ") bytes behind word)) (λ h4.
-    absurd (none-some _ h4)))))
+    branch _ (after (codes "commit ") bytes) commit_at _ (command, rest) h1 (λ behind word. commit-is bytes behind command rest (after-is (codes "commit ") bytes behind word)) (λ h2.
+    branch _ (after (codes "print ") bytes) print_at _ (command, rest) h2 (λ behind word. print-is bytes behind command rest (after-is (codes "print ") bytes behind word)) (λ h3.
+    absurd (none-some _ h3))))
 
--- what was read is a command
-pub command-is : (bytes : List ℕ) (command : Command) (rest : List ℕ) → command_at bytes ≡ Some (command, rest) → IsCommandAt bytes command rest
-unfolding command_at
-command-is bytes command rest h =
+-- what was read is a command other than `add`
+pub other-is : (bytes : List ℕ) (command : Command) (rest : List ℕ) → other_at bytes ≡ Some (command, rest) → IsCommandAt bytes command rest
+unfolding other_at
+other-is bytes command rest h =
     branch _ (after (codes "grid ") bytes) grid_at _ (command, rest) h (λ behind word. grid-is bytes behind command rest (after-is (codes "grid ") bytes behind word)) (λ h1.
     branch _ (after (codes "open ") bytes) open_at _ (command, rest) h1 (λ behind word. open-is bytes behind command rest (after-is (codes "open ") bytes behind word)) (λ h2.
     branch _ (after (codes "take v") bytes) take_at _ (command, rest) h2 (λ behind word. take-is bytes behind command rest (after-is (codes "take v") bytes behind word)) (λ h3.
     branch _ (after (codes "undo") bytes) undo_at _ (command, rest) h3 (λ behind word. undo-is bytes behind command rest (after-is (codes "undo") bytes behind word)) (λ h4.
     change-is bytes command rest h4))))
+
+-- what was read is a command
+pub command-is : (bytes : List ℕ) (command : Command) (rest : List ℕ) → command_at bytes ≡ Some (command, rest) → IsCommandAt bytes command rest
+unfolding command_at
+command-is bytes command rest h =
+    branch _ (after (codes "add ") bytes) add_at _ (command, rest) h (λ behind word. add-is bytes behind command rest (after-is (codes "add ") bytes behind word)) (other-is bytes command rest)
+
+-- a command that was read is one
+pub other-good : (bytes : List ℕ) (command : Command) (rest : List ℕ) → ◌≡◌ {A = Option (Command × List ℕ)} (Some (command, rest)) (other_at bytes) → IsCommand command
+other-good bytes command rest read = (other-is bytes command rest (sym read)).good
+
+-- a command is read behind its word
+pub reads-add : (bytes behind : List ℕ) (o : Option (Command × List ℕ)) → Some behind ≡ after (codes "add ") bytes → add_at behind ≡ o → command_at bytes ≡ o
+unfolding command_at
+reads-add bytes behind o word read = rw (← word) read
+
+-- or as another
+pub reads-other : (bytes : List ℕ) (o : Option (Command × List ℕ)) → None ≡ after (codes "add ") bytes → other_at bytes ≡ o → command_at bytes ≡ o
+unfolding command_at
+reads-other bytes o word read = rw (← word) read

@@ -1,5 +1,5 @@
 pub mod NameLemmas
-pub mod StatementLemmas
+pub mod YearLemmas
 pub mod CommandLemmas
 pub mod LineLemmas
 pub mod ScriptLemmas

@@ -1,5 +1,5 @@
 -- Lines: each is read as it stands.
-use Rattle.std.proofs.Common.{◌≡◌, ℕ, ◌⊎◌, inl, inr, List, [], ◌∷◌, ◌++◌, codes, Some, refl, sym, ap, ◌∙◌, subst, append_assoc, append-nil}
+use Rattle.std.proofs.Common.{◌≡◌, ℕ, ◌⊎◌, inl, inr, List, [], ◌∷◌, ◌++◌, codes, Some, None, refl, sym, ap, ◌∙◌, subst, append_assoc, append-nil}
 use Rattle.std.specs.List.{flat_map}
 use Rattle.std.proofs.lemmas.List.{append_cancel_right}
 use Rattle.cg_form.specs.Text.{IsEnd}
@@ -7,7 +7,7 @@ use Rattle.cg_form.proofs.StepLemmas.{passes, parts}
 use Rattle.cg_form.proofs.PieceLemmas.{after-is}
 use Rattle.cg_sharing.specs.Command.{Command}
 use Rattle.cg_script.specs.Form.{IsCommand, text_of_command, line_of}
-use Rattle.cg_script.specs.Reading.{change_at, command_at, line_end, line_at}
+use Rattle.cg_script.specs.Reading.{change_at, other_at, command_at, line_end, line_at}
 use Rattle.cg_script.proofs.CommandLemmas.{at_end, at_line, command-append, command-is}
 
 -- a command before the end of its line
@@ -88,5 +88,20 @@ line-is bytes command rest h =
 
 -- nothing is no line
 pub no-line : (command : Command) (rest : List ℕ) → line_at [] ≡ Some (command, rest) → ⊥
-unfolding line_at command_at change_at
+unfolding line_at command_at other_at change_at
 no-line command rest h = absurd cc
+
+-- a line is read by its command and its end
+pub reads-line : (bytes : List ℕ) (command : Command) (behind rest : List ℕ) → command_at bytes ≡ Some (command, behind) → Some rest ≡ line_end behind → line_at bytes ≡ Some (command, rest)
+unfolding line_at
+reads-line bytes command behind rest read end = rw (read, ← end) refl
+
+-- not without its end
+pub reads-endless : (bytes : List ℕ) (command : Command) (behind : List ℕ) → command_at bytes ≡ Some (command, behind) → None ≡ line_end behind → line_at bytes ≡ None
+unfolding line_at
+reads-endless bytes command behind read end = rw (read, ← end) refl
+
+-- nor without a command
+pub reads-wordless : (bytes : List ℕ) → command_at bytes ≡ None → line_at bytes ≡ None
+unfolding line_at
+reads-wordless bytes read = rw read refl

@@ -4,15 +4,13 @@ use Rattle.std.specs.List.{flat_map}
 use Rattle.std.proofs.lemmas.List.Elements.{All-nil, All-cons}
 use Rattle.std.proofs.lemmas.Option.{slice_get-map}
 use Rattle.std.proofs.lemmas.List.{length-map}
-use Rattle.cg_meaning.specs.Tree.{Dating, Free, Exact, Normal, Carbon, Leaf, Boundary, Group}
-use Rattle.cg_meaning.specs.Sequence.{IsPlain}
 use Rattle.cg_model.proofs.PlaceLemmas.{All-slice_get}
-use Rattle.cg_model.specs.Limits.{IsInRange}
 use Rattle.cg_form.specs.Text.{IsText, IsEnd}
 use Rattle.cg_form.proofs.StepLemmas.{passes, none-some}
+use Rattle.cg_form.proofs.ModelLemmas.{stated-range, written-range}
 use Rattle.cg_sharing.specs.Edit.{Set, Add}
 use Rattle.cg_sharing.specs.Command.{Command, Grid, Open, Take, Undo, Change, Commit, Print, Line}
-use Rattle.cg_script.specs.Form.{IsStated, IsCommand, text_of_command, line_of, is_print, lines_from, IsScript, HasNoScript, IsSound, IsBounded}
+use Rattle.cg_script.specs.Form.{IsCommand, text_of_command, line_of, is_print, lines_from, IsScript, HasNoScript, IsSound, IsBounded}
 use Rattle.cg_script.specs.Reading.{line_at, commands_at}
 use Rattle.cg_script.proofs.LineLemmas.{first-line, line-is, no-line}
 
@@ -146,13 +144,6 @@ many-prints bytes commands e many = λ lines h.
     let same : commands ≡ h.commands = cc in
     absurd (omega (arith, h.prints, many, ap (λ cs. count_by is_print cs) same))
 
--- what a statement says has no error
-stated-plain : (dating : Dating) → IsStated dating → IsInRange dating × IsPlain dating
-stated-plain Free h = (tt, tt)
-stated-plain (Exact year) h = (h, tt)
-stated-plain (Normal year error) h = absurd h
-stated-plain (Carbon age error) h = absurd h
-
 -- a text is not empty
 text-some : (text : List ℕ) → IsText text → text ≡ [] → ⊥
 text-some text h e = absurd (omega (arith, h.some, ap (λ t. length t) e))
@@ -163,12 +154,8 @@ command-sound (Grid older younger) h = tt
 command-sound (Open name) h = tt
 command-sound (Take version) h = tt
 command-sound Undo h = tt
-command-sound (Change (Set event dating)) h = let plain = stated-plain dating h.1 in ((text-some event h.0, plain.0), plain.1)
-command-sound (Change (Add group (Leaf name dating))) h =
-    let plain = stated-plain dating (h.1).1 in
-    ((text-some group h.0, All-cons IsInRange dating [] plain.0 (All-nil IsInRange)), plain.1)
-command-sound (Change (Add group (Boundary name))) h = absurd h.1
-command-sound (Change (Add group (Group kind name ts))) h = absurd h.1
+command-sound (Change (Set event dating)) h = (text-some event h.0, stated-range dating h.1)
+command-sound (Change (Add group node)) h = (text-some group h.0, written-range node (h.1).written)
 command-sound (Commit name) h = tt
 command-sound (Print event) h = tt
 
@@ -217,19 +204,19 @@ read-bounded bytes commands h few =
 
 -- a line is read, and its command put behind the others
 pub reads-one : (count : ℕ) (before now : List Command) (bytes : List ℕ) (command : Command) (rest : List ℕ) (whole : Option (List Command))
-    → commands_at (1000 - count) before bytes ≡ whole → count < 1000 → ◌≡◌ {A = Option (Command × List ℕ)} (Some (command, rest)) (line_at bytes) → now ≡ before ++ command ∷ []
+    → commands_at (1000 - count) before bytes ≡ whole → count < 1000 → line_at bytes ≡ Some (command, rest) → now ≡ before ++ command ∷ []
     → commands_at (1000 - (count + 1)) now rest ≡ whole
 reads-one count before now bytes command rest whole so_far few read more =
     let next : 1000 - count ≡ suc (1000 - (count + 1)) = omega arith in
-    ap (λ cs. commands_at (1000 - (count + 1)) cs rest) more ∙ sym (one-line (1000 - (count + 1)) before bytes command rest (sym read)) ∙ ap (λ n. commands_at n before bytes) (sym next) ∙ so_far
+    ap (λ cs. commands_at (1000 - (count + 1)) cs rest) more ∙ sym (one-line (1000 - (count + 1)) before bytes command rest read) ∙ ap (λ n. commands_at n before bytes) (sym next) ∙ so_far
 
 -- or none is
-none-read : (left : ℕ) (before : List Command) (bytes : List ℕ) → (length bytes == 0) ≡ false → None ≡ line_at bytes → commands_at (suc left) before bytes ≡ None
+none-read : (left : ℕ) (before : List Command) (bytes : List ℕ) → (length bytes == 0) ≡ false → line_at bytes ≡ None → commands_at (suc left) before bytes ≡ None
 unfolding commands_at
 none-read left before [] some read = absurd cc
-none-read left before (c ∷ cs) some read = rw (← read) refl
+none-read left before (c ∷ cs) some read = rw read refl
 
-pub reads-none : (count : ℕ) (before : List Command) (bytes : List ℕ) (whole : Option (List Command)) → commands_at (1000 - count) before bytes ≡ whole → count < 1000 → (length bytes == 0) ≡ false → None ≡ line_at bytes
+pub reads-none : (count : ℕ) (before : List Command) (bytes : List ℕ) (whole : Option (List Command)) → commands_at (1000 - count) before bytes ≡ whole → count < 1000 → (length bytes == 0) ≡ false → line_at bytes ≡ None
     → whole ≡ None
 reads-none count before bytes whole so_far few some read =
     let next : 1000 - count ≡ suc (1000 - (count + 1)) = omega arith in
@@ -246,10 +233,6 @@ unfolding commands_at
 reads-more zero before [] whole so_far full some = absurd cc
 reads-more zero before (c ∷ cs) whole so_far full some = sym so_far
 reads-more (suc left) before bytes whole so_far full some = absurd (omega arith)
-
--- a command that was read is one
-pub line-good : (bytes : List ℕ) (command : Command) (rest : List ℕ) → ◌≡◌ {A = Option (Command × List ℕ)} (Some (command, rest)) (line_at bytes) → IsCommand command
-line-good bytes command rest read = (line-is bytes command rest (sym read)).good
 
 -- the line of a command
 pub line-from : (number place : ℕ) (commands : List Command) → slice_get (lines_from number commands) place ≡ option_map (λ c. record { number = number + place; command = c }) (slice_get commands place)

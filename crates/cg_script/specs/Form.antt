@@ -1,14 +1,13 @@
 -- The plain Form of a session script: one command a line, with single blanks and LF line ends. chron's own.
-use Rattle.std.specs.Prelude.{◌≡◌, ℕ, ◌+◌, ◌^◌, ◌<◌, ◌≤◌, Bool, true, false, ◌==◌, ◌||◌, List, [], ◌∷◌, ◌++◌, length, All, IsTrue, codes, decimal, count_by, Option, Some, None, ℤ, pos, ◌≤ℤ◌, ◌-ℤ◌, int_le, if◌then◌else◌}
+use Rattle.std.specs.Prelude.{◌≡◌, ℕ, ◌+◌, ◌^◌, ◌<◌, ◌≤◌, Bool, true, false, ◌==◌, ◌||◌, List, [], ◌∷◌, ◌++◌, length, All, IsTrue, codes, decimal, count_by, ℤ, pos, ◌≤ℤ◌}
 use Rattle.std.specs.List.{list_all, flat_map}
 use Rattle.std.specs.Char.{is_ascii_alphanumeric}
 use Rattle.std.specs.Fmt.{signed_decimal}
-use Rattle.cg_num.specs.Year.{IsYear}
-use Rattle.cg_meaning.specs.Tree.{Name, Dating, Free, Exact, Normal, Carbon, Tree, Leaf, Boundary, Group}
+use Rattle.cg_meaning.specs.Tree.{Name}
 use Rattle.cg_form.specs.Text.{IsText, quoted, IsEnd}
-use Rattle.cg_form.specs.Model.{statement}
+use Rattle.cg_form.specs.Model.{IsStated, nameless, text_of, IsAlone}
 use Rattle.cg_sharing.specs.Edit.{Edit, Set, Add}
-use Rattle.cg_sharing.specs.Journal.{IsInOrder, BringsPlain}
+use Rattle.cg_sharing.specs.Journal.{IsInOrder}
 use Rattle.cg_sharing.specs.Command.{Command, Grid, Open, Take, Undo, Change, Commit, Print, Line}
 
 -- what the name of a model consists of: letters, digits, `_`, `-` and `.`
@@ -25,47 +24,15 @@ pub record IsName (name : Name) : Type 0 where
 abbrev pub IsGridYear : ℤ → Type 0
 IsGridYear year = (pos 0 ≤ℤ year) × (year ≤ℤ pos 60000)
 
--- what statements may say of an event: nothing, or its exact year
-abbrev pub IsStated : Dating → Type 0
-IsStated Free = Unit {0}
-IsStated (Exact year) = IsYear year
-IsStated (Normal year error) = ⊥
-IsStated (Carbon age error) = ⊥
-
--- the calendar year of a cal BP year: AD years are positive, BC years negative
-abbrev pub calendar_of : ℤ → ℤ
-calendar_of bp = if int_le bp (pos 1949) then pos 1950 -ℤ bp else pos 1949 -ℤ bp
-
--- the calendar year of a statement, where it has one
-abbrev pub year_in : Dating → Option ℤ
-year_in Free = None
-year_in (Exact year) = Some (calendar_of year)
-year_in (Normal year error) = None
-year_in (Carbon age error) = None
-
--- a statement without a name
-abbrev pub nameless : Option ℤ → List ℕ
-nameless None = codes "Date();"
-nameless (Some year) = codes "C_Date(" ++ signed_decimal year ++ codes ");"
-
--- a statement with one, of a leaf
-abbrev pub IsLeaf : Tree → Type 0
-IsLeaf (Leaf name dating) = IsText name × IsStated dating
-IsLeaf (Boundary name) = ⊥
-IsLeaf (Group kind name ts) = ⊥
-
-abbrev pub text_of_leaf : Tree → List ℕ
-text_of_leaf (Leaf name dating) = statement name (year_in dating)
-text_of_leaf (Boundary name) = []
-text_of_leaf (Group kind name ts) = []
-
+-- a dating that a statement may say, or a statement that stands alone
 abbrev pub IsChange : Edit → Type 0
 IsChange (Set event dating) = IsText event × IsStated dating
-IsChange (Add group node) = IsText group × IsLeaf node
+IsChange (Add group node) = IsText group × IsAlone node
 
+-- a dating stands without a name
 abbrev pub text_of_change : Edit → List ℕ
-text_of_change (Set event dating) = codes "set " ++ quoted event ++ codes " " ++ nameless (year_in dating)
-text_of_change (Add group node) = codes "add " ++ quoted group ++ codes " " ++ text_of_leaf node
+text_of_change (Set event dating) = codes "set " ++ quoted event ++ codes " " ++ nameless dating
+text_of_change (Add group node) = codes "add " ++ quoted group ++ codes " " ++ text_of node
 
 -- what each command may be given
 abbrev pub IsCommand : Command → Type 0
@@ -125,13 +92,13 @@ HasNoScript bytes = (lines : List Line) → ¬ IsScript bytes lines
 abbrev pub IsOneScript : Type 0
 IsOneScript = (bytes : List ℕ) (x y : List Line) → IsScript bytes x → IsScript bytes y → x ≡ y
 
--- the change of a command, where it has one, is in order and brings a plain leaf
+-- the change of a command, where it has one, is in order
 abbrev pub IsSound : Command → Type 0
 IsSound (Grid older younger) = Unit {0}
 IsSound (Open name) = Unit {0}
 IsSound (Take version) = Unit {0}
 IsSound Undo = Unit {0}
-IsSound (Change edit) = IsInOrder edit × BringsPlain edit
+IsSound (Change edit) = IsInOrder edit
 IsSound (Commit name) = Unit {0}
 IsSound (Print event) = Unit {0}
 

@@ -1,8 +1,9 @@
 -- How a script is read from front to back: what it says, or none.
 use Rattle.std.specs.Prelude.{ℕ, zero, suc, List, [], ◌∷◌, ◌++◌, codes, Option, Some, None, ℤ, pos, nat_le, if◌then◌else◌}
-use Rattle.cg_meaning.specs.Tree.{Name, Dating, Free, Leaf}
-use Rattle.cg_form.specs.Pieces.{◌>>=◌, after, run_at, text_at, number_at}
-use Rattle.cg_form.specs.Reading.{signed_at, exact_year, member_at}
+use Rattle.cg_meaning.specs.Tree.{Name}
+use Rattle.cg_form.specs.Pieces.{◌>>=◌, after, behind_or, run_at, text_at, number_at}
+use Rattle.cg_form.specs.Values.{nameless_at}
+use Rattle.cg_form.specs.Reading.{alone_at}
 use Rattle.cg_sharing.specs.Edit.{Set, Add}
 use Rattle.cg_sharing.specs.Command.{Command, Grid, Open, Take, Undo, Change, Commit, Print}
 use Rattle.cg_script.specs.Form.{is_name_byte}
@@ -17,18 +18,6 @@ grid_year number = if nat_le number 60000 then Some (pos number) else None
 
 abbrev pub year_at : List ℕ → Option (ℤ × List ℕ)
 year_at bytes = number_at 5 bytes >>= λ number. grid_year number.0 >>= λ year. Some (year, number.1)
-
--- what stands behind `C_Date(` without a name: a year
-abbrev pub exact_at : List ℕ → Option (Dating × List ℕ)
-exact_at bytes = signed_at bytes >>= λ year. exact_year year.0 >>= λ dating. after (codes ");") year.1 >>= λ rest. Some (dating, rest)
-
--- a statement without a name
-abbrev pub nameless_from : Option (List ℕ) → List ℕ → Option (Dating × List ℕ)
-nameless_from (Some rest) bytes = Some (Free, rest)
-nameless_from None bytes = after (codes "C_Date(") bytes >>= λ behind. exact_at behind
-
-abbrev pub nameless_at : List ℕ → Option (Dating × List ℕ)
-nameless_at bytes = nameless_from (after (codes "Date();") bytes) bytes
 
 -- what stands behind the word of each command
 abbrev pub grid_at : List ℕ → Option (Command × List ℕ)
@@ -50,8 +39,8 @@ set_at bytes =
 
 abbrev pub add_at : List ℕ → Option (Command × List ℕ)
 add_at bytes =
-    text_at bytes >>= λ group. after (codes " ") group.1 >>= λ behind. member_at behind >>= λ member.
-    Some (Change (Add group.0 (Leaf (member.0).0 (member.0).1)), member.1)
+    text_at bytes >>= λ group. after (codes " ") group.1 >>= λ behind. alone_at behind >>= λ node.
+    Some (Change (Add group.0 node.0), node.1)
 
 abbrev pub commit_at : List ℕ → Option (Command × List ℕ)
 commit_at bytes = name_at bytes >>= λ name. Some (Commit name.0, name.1)
@@ -59,27 +48,25 @@ commit_at bytes = name_at bytes >>= λ name. Some (Commit name.0, name.1)
 abbrev pub print_at : List ℕ → Option (Command × List ℕ)
 print_at bytes = text_at bytes >>= λ event. Some (Print event.0, event.1)
 
--- what stands behind a word is read so, and where the word does not stand in front, the other is taken
-abbrev pub behind_or : Option (List ℕ) → (List ℕ → Option (Command × List ℕ)) → Option (Command × List ℕ) → Option (Command × List ℕ)
-behind_or (Some behind) read other = read behind
-behind_or None read other = other
-
--- a command that changes, commits or prints
+-- a command that sets, commits or prints
 unfoldable pub change_at : List ℕ → Option (Command × List ℕ)
 change_at bytes =
     behind_or (after (codes "set ") bytes) set_at
-    (behind_or (after (codes "add ") bytes) add_at
     (behind_or (after (codes "commit ") bytes) commit_at
-    (behind_or (after (codes "print ") bytes) print_at None)))
+    (behind_or (after (codes "print ") bytes) print_at None))
 
--- a command
-unfoldable pub command_at : List ℕ → Option (Command × List ℕ)
-command_at bytes =
+-- a command other than `add`
+unfoldable pub other_at : List ℕ → Option (Command × List ℕ)
+other_at bytes =
     behind_or (after (codes "grid ") bytes) grid_at
     (behind_or (after (codes "open ") bytes) open_at
     (behind_or (after (codes "take v") bytes) take_at
     (behind_or (after (codes "undo") bytes) undo_at
     (change_at bytes))))
+
+-- a command
+unfoldable pub command_at : List ℕ → Option (Command × List ℕ)
+command_at bytes = behind_or (after (codes "add ") bytes) add_at (other_at bytes)
 
 -- the end of a line: an LF, or the end of the script
 abbrev pub line_end : List ℕ → Option (List ℕ)

@@ -1,31 +1,11 @@
-//! The commands that change, commit or print.
+//! The commands that set, commit or print.
 ghost use Rattle.std.specs.Prelude.{◌≡◌, option_map};
-ghost use Rattle.cg_model.specs.Dating.{dating_of};
-ghost use Rattle.cg_script.specs.Reading.{exact_at, nameless_at, set_at, add_at, commit_at, print_at, change_at};
+ghost use Rattle.cg_script.specs.Reading.{set_at, commit_at, print_at, change_at};
 ghost use Rattle.cg_script.specs.Written.{said_by};
 
 use crate::name::name_at;
 use crate::written::Written;
-use cg_form::{after, exact_year, member_at, signed_at, text_at};
-use cg_model::Dating;
-
-fn exact_at(bytes: &[u8]) -> Option<(Dating, &[u8])>
-    ensures { option_map (λ read. (dating_of read.0, read.1.now)) result ≡ exact_at bytes.now }
-{
-    let (year, rest) = signed_at(bytes)?;
-    let dating = exact_year(year)?;
-    Some((dating, after(rest, b");")?))
-}
-
-/// The dating of a statement without a name, and what comes after it.
-fn nameless_at(bytes: &[u8]) -> Option<(Dating, &[u8])>
-    ensures { option_map (λ read. (dating_of read.0, read.1.now)) result ≡ nameless_at bytes.now }
-{
-    match after(bytes, b"Date();") {
-        Some(rest) => Some((Dating::Free, rest)),
-        None => exact_at(after(bytes, b"C_Date(")?),
-    }
-}
+use cg_form::{after, nameless_at, text_at};
 
 fn set_at(bytes: &[u8]) -> Option<(Written, &[u8])>
     ensures { option_map (λ read. (said_by read.0, read.1.now)) result ≡ set_at bytes.now }
@@ -35,16 +15,6 @@ fn set_at(bytes: &[u8]) -> Option<(Written, &[u8])>
         return None;
     };
     Some((Written::Set(event, dating), rest))
-}
-
-fn add_at(bytes: &[u8]) -> Option<(Written, &[u8])>
-    ensures { option_map (λ read. (said_by read.0, read.1.now)) result ≡ add_at bytes.now }
-{
-    let (group, rest) = text_at(bytes)?;
-    let Some((name, dating, rest)) = member_at(after(rest, b" ")?) else {
-        return None;
-    };
-    Some((Written::Add(group, name, dating), rest))
 }
 
 fn commit_at(bytes: &[u8]) -> Option<(Written, &[u8])>
@@ -61,16 +31,13 @@ fn print_at(bytes: &[u8]) -> Option<(Written, &[u8])>
     Some((Written::Print(event), rest))
 }
 
-/// A `set`, `add`, `commit` or `print`, and what comes after it.
+/// A `set`, `commit` or `print`, and what comes after it.
 #[tactic(auto, unfolding(crate::specs::Reading::change_at))]
 pub fn change_at(bytes: &[u8]) -> Option<(Written, &[u8])>
     ensures { option_map (λ read. (said_by read.0, read.1.now)) result ≡ change_at bytes.now }
 {
     if let Some(behind) = after(bytes, b"set ") {
         return set_at(behind);
-    }
-    if let Some(behind) = after(bytes, b"add ") {
-        return add_at(behind);
     }
     if let Some(behind) = after(bytes, b"commit ") {
         return commit_at(behind);

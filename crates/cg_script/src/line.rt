@@ -1,13 +1,18 @@
 //! One line of a script.
-ghost use Rattle.std.specs.Prelude.{◌≡◌, option_map};
-ghost use Rattle.cg_script.specs.Reading.{grid_year, year_at, grid_at, open_at, take_at, command_at, line_end, line_at};
+ghost use Rattle.std.specs.Prelude.{◌≡◌, Some, None, option_map, IfOk};
+ghost use Rattle.cg_script.specs.Command.{command_in};
+ghost use Rattle.cg_script.specs.Reading.{grid_year, year_at, grid_at, open_at, take_at, other_at, add_at, command_at, line_end, line_at};
 ghost use Rattle.cg_script.specs.Written.{said_by};
 
 use crate::change::change_at;
+use crate::command::Command;
+use crate::fault::ScriptFault;
 use crate::name::name_at;
-use crate::written::Written;
-use cg_form::{after, number_at};
+use crate::written::{Written, owned};
+use cg_edit::Edit;
+use cg_form::{FormFault, after, alone_at, name_of, number_at, text_at};
 use cg_num::Year;
+use std::alloc::Global;
 
 const YEAR_DIGITS: usize = 5;
 
@@ -52,9 +57,10 @@ fn take_at(bytes: &[u8]) -> Option<(Written, &[u8])>
     Some((Written::Take(version), rest))
 }
 
-#[tactic(auto, unfolding(crate::specs::Reading::command_at))]
-fn command_at(bytes: &[u8]) -> Option<(Written, &[u8])>
-    ensures { option_map (λ read. (said_by read.0, read.1.now)) result ≡ command_at bytes.now }
+/// A command other than `add`, and what comes after it.
+#[tactic(auto, unfolding(crate::specs::Reading::other_at))]
+fn other_at(bytes: &[u8]) -> Option<(Written, &[u8])>
+    ensures { option_map (λ read. (said_by read.0, read.1.now)) result ≡ other_at bytes.now }
 {
     if let Some(behind) = after(bytes, b"grid ") {
         return grid_at(behind);
@@ -80,13 +86,47 @@ fn line_end(bytes: &[u8]) -> Option<&[u8]>
     }
 }
 
-/// The command of a line, and what comes after the line.
-#[tactic(auto, unfolding(crate::specs::Reading::line_at))]
-pub fn line_at(bytes: &[u8]) -> Option<(Written, &[u8])>
-    ensures { option_map (λ read. (said_by read.0, read.1.now)) result ≡ line_at bytes.now }
+fn add_at(alloc: Global, bytes: &[u8]) -> Result<(Command, &[u8]), ScriptFault>
+    ensures ok { IfOk result (λ read. add_at bytes.now ≡ Some (command_in read.0, read.1.now)) }
+    ensures form { result ≡ Err ScriptFault.Form → add_at bytes.now ≡ None }
 {
-    let Some((command, rest)) = command_at(bytes) else {
-        return None;
+    let Some((group, behind)) = text_at(bytes) else {
+        return Err(ScriptFault::Form);
     };
-    Some((command, line_end(rest)?))
+    let Some(behind) = after(behind, b" ") else {
+        return Err(ScriptFault::Form);
+    };
+    match alone_at(alloc, behind) {
+        Ok((node, rest)) => {
+            let group = name_of(alloc, group)?;
+            Ok((Command::Change(Edit::Add(group, node)), rest))
+        }
+        Err(FormFault::Form) => Err(ScriptFault::Form),
+        Err(FormFault::NoMemory) => Err(ScriptFault::NoMemory),
+    }
+}
+
+fn command_at(alloc: Global, bytes: &[u8]) -> Result<(Command, &[u8]), ScriptFault>
+    ensures ok { IfOk result (λ read. command_at bytes.now ≡ Some (command_in read.0, read.1.now)) }
+    ensures form { result ≡ Err ScriptFault.Form → command_at bytes.now ≡ None }
+{
+    if let Some(behind) = after(bytes, b"add ") {
+        return add_at(alloc, behind);
+    }
+    let Some((written, rest)) = other_at(bytes) else {
+        return Err(ScriptFault::Form);
+    };
+    Ok((owned(alloc, &written)?, rest))
+}
+
+/// The command of a line, and what comes after the line.
+pub fn line_at(alloc: Global, bytes: &[u8]) -> Result<(Command, &[u8]), ScriptFault>
+    ensures ok { IfOk result (λ read. line_at bytes.now ≡ Some (command_in read.0, read.1.now)) }
+    ensures form { result ≡ Err ScriptFault.Form → line_at bytes.now ≡ None }
+{
+    let (command, behind) = command_at(alloc, bytes)?;
+    let Some(rest) = line_end(behind) else {
+        return Err(ScriptFault::Form);
+    };
+    Ok((command, rest))
 }

@@ -6,7 +6,6 @@ ghost use Rattle.cg_script.specs.Reading.{commands_at};
 use crate::command::Command;
 use crate::fault::ScriptFault;
 use crate::line::line_at;
-use crate::written::owned;
 use std::alloc::Global;
 use std::marker::Model;
 
@@ -88,10 +87,8 @@ fn commands_at(alloc: Global, bytes: &[u8]) -> Result<Vec<Command>, ScriptFault>
         if rest.is_empty() {
             break;
         }
-        let Some((command, behind)) = line_at(rest) else {
-            return Err(ScriptFault::Form);
-        };
-        commands.push(owned(alloc, &command)?)?;
+        let (command, behind) = line_at(alloc, rest)?;
+        commands.push(command)?;
         rest = behind;
     }
     if rest.is_empty() {
@@ -104,8 +101,9 @@ fn commands_at(alloc: Global, bytes: &[u8]) -> Result<Vec<Command>, ScriptFault>
 /// The script that bytes say. `Form` comes exactly where they are not in the plain Form of a script.
 ///
 /// A line is one of `grid OLDER YOUNGER`, `open NAME`, `take vN`, `undo`, `set "EVENT" STATEMENT`,
-/// `add "GROUP" STATEMENT`, `commit NAME` and `print "EVENT"`. The years are 0 to 60,000 cal BP. A statement is
-/// `Date("N");` or `C_Date("N",Y);`, and nameless for `set`.
+/// `add "GROUP" STATEMENT`, `commit NAME` and `print "EVENT"`. The years are 0 to 60,000 cal BP. A statement of `set` is
+/// `Date();`, `C_Date(Y);`, `C_Date(Y,E);` or `R_Date(A,E);`, and that of `add` any one statement of a model file, a
+/// Boundary too, within the limits of a model.
 pub fn read_script(alloc: Global, bytes: &[u8]) -> Result<Script, ScriptFault>
     ensures ok { IfOk result (λ script. IsScript bytes.now script) }
     ensures form { result ≡ Err ScriptFault.Form → HasNoScript bytes.now }

@@ -4,29 +4,39 @@ use cg_model::{Dating, Node};
 use std::alloc::{AllocError, Global};
 use std::test::Fail;
 
-// the cal BP year of an exact dating
-fn year_of(dating: &Dating) -> Option<i32> {
+fn dating_text(alloc: Global, dating: &Dating) -> Result<String, AllocError> {
     match dating {
-        Dating::Exact(year) => Some(year.bp()),
-        _ => None,
+        Dating::Free => format!(in alloc; "free"),
+        Dating::Exact(year) => format!(in alloc; "{}", year.bp()),
+        Dating::Normal(year, error) => {
+            format!(in alloc; "{} by {}", year.bp(), error.thousandths())
+        }
+        Dating::Carbon(age, error) => {
+            format!(in alloc; "aged {} by {}", age.thousandths(), error.thousandths())
+        }
     }
 }
 
 fn node_text(alloc: Global, node: &Node) -> Result<String, AllocError> {
+    let name = node.name().text();
     match node {
-        Node::Leaf(name, dating) => {
-            let (name, year) = (name.text(), year_of(dating));
-            format!(in alloc; "{name} {year:?}")
+        Node::Leaf(_, dating) => {
+            let dating = dating_text(alloc, dating)?;
+            format!(in alloc; "{name} {dating}")
         }
-        _ => format!(in alloc; "no leaf"),
+        Node::Boundary(_) => format!(in alloc; "Boundary {name}"),
+        Node::Sequence(_, members) => format!(in alloc; "Sequence {name} of {}", members.len()),
+        Node::Phase(_, members) => format!(in alloc; "Phase {name} of {}", members.len()),
+        Node::After(_, members) => format!(in alloc; "After {name} of {}", members.len()),
+        Node::Before(_, members) => format!(in alloc; "Before {name} of {}", members.len()),
     }
 }
 
 fn edit_text(alloc: Global, edit: &Edit) -> Result<String, AllocError> {
     match edit {
         Edit::Set(name, dating) => {
-            let (name, year) = (name.text(), year_of(dating));
-            format!(in alloc; "Set {name} {year:?}")
+            let (name, dating) = (name.text(), dating_text(alloc, dating)?);
+            format!(in alloc; "Set {name} {dating}")
         }
         Edit::Add(name, node) => {
             let (name, node) = (name.text(), node_text(alloc, node)?);
@@ -91,11 +101,26 @@ fn accepted(rt: HostRuntime) -> Result<(), Fail> {
         ("take v0\n", "1 Take 0;"),
         ("take v1234567\n", "1 Take 1234567;"),
         ("undo\n", "1 Undo;"),
-        ("set \"A\" Date();\n", "1 Set A None;"),
-        ("set \"A\" C_Date(-50);\n", "1 Set A Some(1999);"),
-        ("set \"A\" C_Date(1);\n", "1 Set A Some(1949);"),
-        ("add \"s\" Date(\"C\");\n", "1 Add s C None;"),
-        ("add \"s\" C_Date(\"C\",-1);\n", "1 Add s C Some(1950);"),
+        ("set \"A\" Date();\n", "1 Set A free;"),
+        ("set \"A\" C_Date(-50);\n", "1 Set A 1999;"),
+        ("set \"A\" C_Date(1);\n", "1 Set A 1949;"),
+        ("set \"A\" C_Date(-51,5);\n", "1 Set A 2000 by 5000;"),
+        (
+            "set \"A\" R_Date(2000,30.5);\n",
+            "1 Set A aged 2000000 by 30500;",
+        ),
+        ("add \"s\" Boundary(\"C\");\n", "1 Add s Boundary C;"),
+        (
+            "add \"s\" R_Date(\"C\",0,1);\n",
+            "1 Add s C aged 0 by 1000;",
+        ),
+        ("add \"s\" After(\"C\"){};\n", "1 Add s After C of 0;"),
+        (
+            "add \"s\" Phase(){Sequence(){Boundary(\"b\");};Date(\"A\");};\n",
+            "1 Add s Phase  of 2;",
+        ),
+        ("add \"s\" Date(\"C\");\n", "1 Add s C free;"),
+        ("add \"s\" C_Date(\"C\",-1);\n", "1 Add s C 1950;"),
         ("commit main\n", "1 Commit main;"),
         ("print \"A\"\n", "1 Print A;"),
         (
@@ -104,11 +129,11 @@ fn accepted(rt: HostRuntime) -> Result<(), Fail> {
         ),
         (
             "open main\nadd \"s\" Date(\"C\");\ncommit main",
-            "1 Open main;2 Add s C None;3 Commit main;",
+            "1 Open main;2 Add s C free;3 Commit main;",
         ),
         (
             "open main\nadd \"s\" Date(\"D\");\ncommit main\nundo\nundo\ntake v7\n",
-            "1 Open main;2 Add s D None;3 Commit main;4 Undo;5 Undo;6 Take 7;",
+            "1 Open main;2 Add s D free;3 Commit main;4 Undo;5 Undo;6 Take 7;",
         ),
     ];
     for (bytes, want) in cases {
@@ -159,12 +184,17 @@ fn refused(rt: HostRuntime) -> Result<(), Fail> {
         "set \"A\" C_Date(2951);\n",
         "set \"A\" C_Date();\n",
         "set \"A\" Date()\n",
+        "set \"A\" C_Date(5,0.999);\n",
+        "set \"A\" R_Date(2000);\n",
+        "set \"A\" Boundary();\n",
         "set A Date();\n",
         "set \"\" Date();\n",
         "set \"A B\" Date();\n",
         "add \"s\" Date();\n",
         "add \"s\" C_Date(5);\n",
-        "add \"s\" Boundary(\"C\");\n",
+        "add \"s\" Phase(){Boundary(\"C\");};\n",
+        "add \"s\" Date(\"C\");Date(\"D\");\n",
+        "add \"s\" C_Date(\"C\",5,0.999);\n",
         "add \"s\" Date(\"C\")\n",
         "commit\n",
         "commit main main\n",
@@ -210,6 +240,28 @@ fn limits(rt: HostRuntime) -> Result<(), Fail> {
             count_of(rt.alloc(), text.as_bytes())?,
             want,
             "{count} {line}"
+        );
+    }
+    let depths = [(16, Some(1)), (17, None)];
+    for (depth, want) in depths {
+        let open = repeated(rt.alloc(), "Phase(){", depth)?;
+        let close = repeated(rt.alloc(), "};", depth)?;
+        let text = format!(in rt.alloc(); "add \"s\" {open}{close}")?;
+        assert_eq!(rt; count_of(rt.alloc(), text.as_bytes())?, want, "{depth}");
+    }
+    let members = [
+        ("Date(\"A\");", 100, Some(1)),
+        ("Date(\"A\");", 101, None),
+        ("After(){};", 59, Some(1)),
+        ("After(){};", 60, None),
+    ];
+    for (member, count, want) in members {
+        let all = repeated(rt.alloc(), member, count)?;
+        let text = format!(in rt.alloc(); "add \"s\" Phase(){{{all}}};")?;
+        assert_eq!(rt;
+            count_of(rt.alloc(), text.as_bytes())?,
+            want,
+            "{count} {member}"
         );
     }
     let names = [(64, Some(1)), (65, None)];

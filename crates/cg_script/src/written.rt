@@ -6,11 +6,11 @@ ghost use Rattle.cg_script.specs.Written.{said_by};
 use crate::command::Command;
 use cg_edit::Edit;
 use cg_form::name_of;
-use cg_model::{Dating, Node};
+use cg_model::Dating;
 use cg_num::{NoMemory, Year};
 use std::alloc::Global;
 
-/// A command whose names still stand in the bytes.
+/// A command other than `add`, whose names still stand in the bytes.
 #[derive(Drop)]
 pub enum Written<'a> {
     Grid(Year, Year),
@@ -18,7 +18,6 @@ pub enum Written<'a> {
     Take(u32),
     Undo,
     Set(&'a str, Dating),
-    Add(&'a str, &'a str, Dating),
     Commit(&'a str),
     Print(&'a str),
 }
@@ -35,10 +34,6 @@ pub fn owned(alloc: Global, written: &Written) -> Result<Command, NoMemory>
         Written::Undo => Ok(Command::Undo),
         Written::Set(event, dating) => {
             Ok(Command::Change(Edit::Set(name_of(alloc, event)?, *dating)))
-        }
-        Written::Add(group, name, dating) => {
-            let node = Node::Leaf(name_of(alloc, name)?, *dating);
-            Ok(Command::Change(Edit::Add(name_of(alloc, group)?, node)))
         }
         Written::Commit(name) => Ok(Command::Commit(name_of(alloc, name)?)),
         Written::Print(event) => Ok(Command::Print(name_of(alloc, event)?)),
