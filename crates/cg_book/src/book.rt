@@ -55,8 +55,8 @@ impl Book {
     }
 
     /// One event of a seat: the reply that the versions give now, and one entry at the end of the journal. Want of
-    /// memory leaves all as it was, without an entry. Each version that an event names is known, but for `Take`; a change
-    /// brings a leaf or a dating without an error.
+    /// memory leaves all as it was, without an entry. Each version that an event names is known, but for `Take`, and the
+    /// values that a change brings are in their ranges.
     pub fn apply(&mut self, alloc: Global, seat: u32, event: Event) -> Reply
         requires { May (state_of self.old) (asked event) }
         ensures step { Steps self.old seat (asked event) (answered result) self.new }

@@ -1,6 +1,6 @@
 ghost use Rattle.std.specs.Prelude.{◌≡◌, ◌≢◌, ◌<◌, [], IfOk};
 ghost use Rattle.cg_sharing.specs.Versions.{count_of};
-ghost use Rattle.cg_sharing.specs.Journal.{IsInOrder, BringsPlain};
+ghost use Rattle.cg_sharing.specs.Journal.{IsInOrder};
 ghost use Rattle.cg_edit.specs.Plain.{edit_in};
 ghost use Rattle.cg_book.specs.Plain.{state_of};
 
@@ -26,7 +26,7 @@ fn one_model(alloc: Global) -> Result<Book, Fail> {
 /// A further undated member for a group.
 fn addition(alloc: Global, group: &str, name: &str) -> Result<Edit, Fail>
     requires { group.now ≢ [] }
-    ensures { IfOk result (λ edit. IsInOrder (edit_in edit) × BringsPlain (edit_in edit)) }
+    ensures { IfOk result (λ edit. IsInOrder (edit_in edit)) }
 {
     let member = Node::Leaf(Name::new(alloc, name)?, Dating::Free);
     Ok(Edit::Add(Name::new(alloc, group)?, member))

@@ -9,7 +9,7 @@ ghost use Rattle.cg_edit.specs.Plain.{edit_in};
 
 use crate::*;
 use cg_model::{Dating, Limit, Members, ModelTree, Name, Node};
-use cg_num::Year;
+use cg_num::{Decimal, Year};
 use std::alloc::{AllocError, Global};
 use std::test::Fail;
 
@@ -45,12 +45,30 @@ fn site(alloc: Global) -> Result<ModelTree, Fail> {
     Ok(ModelTree::new(Some(curve), top)?)
 }
 
-// a node as its name: with its year, behind a bar for a Boundary, or before its members
+// a node as its name: with its year or age and its error, behind a bar for a Boundary, or before its members
 #[cycle(texts)]
 fn write_node(text: &mut String, node: &Node) -> Result<(), AllocError> {
     match node {
         Node::Leaf(name, Dating::Exact(year)) => write!(text, "{}={} ", name.text(), year.bp()),
-        Node::Leaf(name, _) => write!(text, "{} ", name.text()),
+        Node::Leaf(name, Dating::Normal(year, error)) => {
+            write!(
+                text,
+                "{}={}~{} ",
+                name.text(),
+                year.bp(),
+                error.thousandths()
+            )
+        }
+        Node::Leaf(name, Dating::Carbon(age, error)) => {
+            write!(
+                text,
+                "{}@{}~{} ",
+                name.text(),
+                age.thousandths(),
+                error.thousandths()
+            )
+        }
+        Node::Leaf(name, Dating::Free) => write!(text, "{} ", name.text()),
         Node::Boundary(name) => write!(text, "|{} ", name.text()),
         Node::Sequence(name, members) => write_group(text, name, "[", members),
         Node::Phase(name, members) => write_group(text, name, "(", members),
@@ -83,12 +101,28 @@ fn text_of(alloc: Global, model: &ModelTree) -> Result<String, AllocError> {
     Ok(text)
 }
 
-fn set(alloc: Global, target: &str) -> Result<Edit, Fail>
+#[derive(Clone, Copy, Debug)]
+enum Said {
+    Exact,
+    Normal,
+    Carbon,
+}
+
+fn dating(which: Said) -> Dating
+    ensures { IsInRange (dating_of result) }
+{
+    match which {
+        Said::Exact => Dating::Exact(Year::within(2_000)),
+        Said::Normal => Dating::Normal(Year::within(2_010), Decimal::within(5_000)),
+        Said::Carbon => Dating::Carbon(Decimal::within(2_340_000), Decimal::within(30_000)),
+    }
+}
+
+fn set(alloc: Global, target: &str, which: Said) -> Result<Edit, Fail>
     requires { target.now ≢ [] }
     ensures { IfOk result (λ edit. IsInOrder (edit_in edit)) }
 {
-    let dating = Dating::Exact(Year::within(2_000));
-    Ok(Edit::Set(name(alloc, target)?, dating))
+    Ok(Edit::Set(name(alloc, target)?, dating(which)))
 }
 
 fn add(alloc: Global, target: &str, node: Node) -> Result<Edit, Fail>
@@ -105,6 +139,46 @@ enum Member {
     Boundary,
     // a Phase of a Boundary
     Span,
+    // a Phase of so many events
+    Dates(u32),
+    // a Phase of so many Phases
+    Groups(u32),
+    // so many Phases, one in another
+    Tower(u32),
+}
+
+// so many undated events
+fn dates(alloc: Global, count: u32) -> Result<Members, Fail>
+    ensures placed { IfOk result (λ members. AreInPlace spec.Phase (trees_of members)) }
+    ensures ranged { IfOk result (λ members. AreInRange (trees_of members)) }
+{
+    let mut members = Members::new(alloc);
+    for _ in 0..count {
+        members.push(date(alloc, "")?)?;
+    }
+    Ok(members)
+}
+
+fn groups(alloc: Global, count: u32) -> Result<Node, Fail>
+    ensures { IfOk result (λ node. All IsInRange (datings_of (tree_of node))) }
+{
+    let mut members = Members::new(alloc);
+    for _ in 0..count {
+        members.push(Node::Phase(name(alloc, "")?, Members::new(alloc)))?;
+    }
+    Ok(Node::Phase(name(alloc, "")?, members))
+}
+
+fn tower(alloc: Global, height: u32) -> Result<Node, Fail>
+    ensures { IfOk result (λ node. All IsInRange (datings_of (tree_of node))) }
+{
+    let mut node = Node::Phase(name(alloc, "")?, Members::new(alloc));
+    for _ in 1..height {
+        let mut members = Members::new(alloc);
+        members.push(node)?;
+        node = Node::Phase(name(alloc, "")?, members);
+    }
+    Ok(node)
 }
 
 fn added(alloc: Global, which: Member) -> Result<Node, Fail>
@@ -118,6 +192,9 @@ fn added(alloc: Global, which: Member) -> Result<Node, Fail>
             members.push(Node::Boundary(name(alloc, "N")?))?;
             Ok(Node::Phase(name(alloc, "")?, members))
         }
+        Member::Dates(count) => Ok(Node::Phase(name(alloc, "")?, dates(alloc, count)?)),
+        Member::Groups(count) => groups(alloc, count),
+        Member::Tower(height) => tower(alloc, height),
     }
 }
 
@@ -141,11 +218,15 @@ fn outcome(alloc: Global, edit: &Edit) -> Result<Result<String, EditFault>, Fail
     Ok(outcome)
 }
 
-fn set_outcome(alloc: Global, target: &str) -> Result<Result<String, EditFault>, Fail> {
+fn set_outcome(
+    alloc: Global,
+    target: &str,
+    which: Said,
+) -> Result<Result<String, EditFault>, Fail> {
     if target.is_empty() {
         return Err(Fail::new("no name"));
     }
-    let edit = set(alloc, target)?;
+    let edit = set(alloc, target, which)?;
     outcome(alloc, &edit)
 }
 
@@ -164,11 +245,16 @@ fn add_outcome(
 #[test]
 fn sets(rt: HostRuntime) -> Result<(), Fail> {
     let cases = [
-        ("A", "s[A=2000 p(B T ) |E a>(T ) b<() ) "),
-        ("B", "s[A p(B=2000 T ) |E a>(T ) b<() ) "),
+        ("A", Said::Exact, "s[A=2000 p(B T ) |E a>(T ) b<() ) "),
+        ("B", Said::Normal, "s[A p(B=2010~5000 T ) |E a>(T ) b<() ) "),
+        (
+            "B",
+            Said::Carbon,
+            "s[A p(B@2340000~30000 T ) |E a>(T ) b<() ) ",
+        ),
     ];
-    for (target, want) in cases {
-        let text = set_outcome(rt.alloc(), target)??;
+    for (target, which, want) in cases {
+        let text = set_outcome(rt.alloc(), target, which)??;
         assert_eq!(rt; text.as_str(), want);
     }
     Ok(())
@@ -186,7 +272,7 @@ fn refused_sets(rt: HostRuntime) -> Result<(), Fail> {
         ("b", EditFault::WrongKind(Kind::Before)),
     ];
     for (target, want) in cases {
-        let fault = set_outcome(rt.alloc(), target)?.err();
+        let fault = set_outcome(rt.alloc(), target, Said::Carbon)?.err();
         assert_eq!(rt; fault, Some(want));
     }
     Ok(())
@@ -227,12 +313,8 @@ fn refused_adds(rt: HostRuntime) -> Result<(), Fail> {
 
 // Phase("p") { .. }; of so many events
 fn phase(alloc: Global, count: u32) -> Result<ModelTree, Fail> {
-    let mut members = Members::new(alloc);
-    for _ in 0..count {
-        members.push(date(alloc, "")?)?;
-    }
     let mut top = Members::new(alloc);
-    top.push(Node::Phase(name(alloc, "p")?, members))?;
+    top.push(Node::Phase(name(alloc, "p")?, dates(alloc, count)?))?;
     Ok(ModelTree::new(None, top)?)
 }
 
@@ -251,6 +333,14 @@ fn limits(rt: HostRuntime) -> Result<(), Fail> {
     let cases = [
         (99, Member::Date, Ok(100)),
         (100, Member::Date, Err(EditFault::Limit(Limit::Events))),
+        (98, Member::Dates(2), Ok(100)),
+        (98, Member::Dates(3), Err(EditFault::Limit(Limit::Events))),
+        // with "p" and the Phase around them
+        (1, Member::Groups(58), Ok(1)),
+        (1, Member::Groups(59), Err(EditFault::Limit(Limit::Groups))),
+        // below "p"
+        (1, Member::Tower(15), Ok(1)),
+        (1, Member::Tower(16), Err(EditFault::Limit(Limit::Depth))),
         (
             100,
             Member::Boundary,
@@ -267,7 +357,7 @@ fn limits(rt: HostRuntime) -> Result<(), Fail> {
 #[test]
 fn parts(rt: HostRuntime) -> Result<(), Fail> {
     all_else_stays();
-    let edit = set(rt.alloc(), "A")?;
+    let edit = set(rt.alloc(), "A", Said::Exact)?;
     assert_eq!(rt; edit.target().text(), "A");
     let model = site(rt.alloc())?;
     let after = apply(rt.alloc(), &model, &edit)?;

@@ -1,7 +1,7 @@
 pub mod AdvanceLemmas
 pub mod BaseLemmas
+pub mod CoverLemmas
 pub mod LineLemmas
-pub mod PlainLemmas
 pub mod PortLemmas
 pub mod ReadyLemmas
 pub mod SessionLemmas

@@ -1,20 +1,19 @@
 -- Where the code's session is in its course.
-use Rattle.std.specs.Prelude.{◌≡◌, ℕ, ◌-◌, ◌<◌, ◌≤◌, List, [], ◌++◌, length, take, slice_get, All, MatchBool, Some, vec_len, vec_capacity}
-use Rattle.cg_meaning.specs.Sequence.{IsPlainSequence}
+use Rattle.std.specs.Prelude.{◌≡◌, ℕ, ◌-◌, ◌<◌, ◌≤◌, List, [], ◌++◌, length, take, slice_get, All, MatchBool, false, Some, vec_len, vec_capacity}
 use Rattle.cg_sharing.specs.Command.{Line}
-use Rattle.cg_sharing.specs.Versions.{State, StartModel, start_of}
+use Rattle.cg_sharing.specs.Versions.{StartModel, start_of}
 use Rattle.cg_sharing.specs.Journal.{Act, Answer, Entry, IsLegal}
-use Rattle.cg_sharing.specs.Course.{Place, act_of, AreOthers, IsRunning, IsEnded, IsStopped, Reaches}
+use Rattle.cg_sharing.specs.Course.{Marginals, Place, act_of, AreOthers, IsRunning, IsEnded, IsStopped, Reaches}
 use Rattle.cg_book.specs.Plain.{Seen, state_of, asked}
 use Rattle.cg_session.specs.declared.session.Session.{Session}
 use Rattle.cg_session.specs.declared.session.Progress.{Progress}
 use Rattle.cg_session.specs.declared.session.Progress.TheVariants.{Moved, Ended, Stopped}
 use Rattle.cg_session.specs.declared.session.Asked.{Asked}
-use Rattle.cg_session.specs.Standing.{marginals, place_in, HasText, IsSpare, IsReady}
+use Rattle.cg_session.specs.Standing.{place_in, HasText, IsSpare, IsReady}
 use Rattle.cg_session.specs.Port.{Grows}
 use Rattle.cg_session.specs.Transcript.{HasRoom}
 
--- each change of a script is in order and brings what sessions may bring, and each print names something
+-- each change of a script is in order, and each print names something
 abbrev pub AreReady : List Line → Type 0
 AreReady lines = All (λ line. IsReady line.command) lines
 
@@ -34,25 +33,29 @@ abbrev pub standing_of : Session → Place
 standing_of session = record (place_in session.standing) { stopped = session.stopped }
 
 -- its script has run to where it stands, or want of memory stopped it there
-abbrev pub Stands : Seen → Session → Type 0
-Stands seen session =
+abbrev pub Stands : Marginals → Seen → Session → Type 0
+Stands marginals seen session =
     MatchBool session.stopped
     (IsStopped marginals session.number seen.start session.script seen.journal (standing_of session))
     (Reaches marginals session.number seen.start (take session.done session.script) seen.journal (place_in session.standing))
 
--- The session is at a state of the course of its script, by what its seat has seen, which is legal.
-pub record IsAt (seen : Seen) (session : Session) : Type 0 where
+-- What a seat has seen that has made no entry yet: a legal journal, over the versions of models.
+pub record IsFresh (seat : ℕ) (seen : Seen) : Type 0 where
+  pub models : List StartModel
+  pub start : seen.start ≡ start_of models
+  pub legal : IsLegal seen.start seen.journal
+  pub others : AreOthers seat seen.journal
+
+-- The session is at a state of the course of its script, by what its seat has seen: a legal journal, over the versions
+-- of models.
+pub record IsAt (marginals : Marginals) (seen : Seen) (session : Session) : Type 0 where
+  pub models : List StartModel
+  pub start : seen.start ≡ start_of models
   pub legal : IsLegal seen.start seen.journal
   pub ready : AreReady session.script
   pub within : session.done ≤ length session.script
-  pub stands : Stands seen session
+  pub stands : Stands marginals seen session
   pub text : HasText (state_of seen) session.standing.version
-
--- the versions are those of models that are plain Sequences
-pub record IsStart (state : State) : Type 0 where
-  pub models : List StartModel
-  pub plain : All (λ model. IsPlainSequence model.chronology) models
-  pub same : state ≡ start_of models
 
 -- the same session, as far as its number, its script and whether it is stopped go, at the same version
 pub record IsSame (old new : Session) : Type 0 where
@@ -71,21 +74,22 @@ pub record IsPrepared (next : Asked) (session : Session) : Type 0 where
   pub base : vec_len session.standing.bases < vec_capacity session.standing.bases
   pub few : length session.script ≤ 1000
 
--- One entry of the seat came, behind those of others, and fewer lines are left.
+-- One entry of the seat came, behind those of others. The session isn't stopped, and fewer lines are left.
 pub record Makes (alone : Type 0) (old new : Seen) (before after : Session) : Type 0 where
   pub act : Act
   pub answer : Answer
   pub grows : Grows before.number alone act (Some answer) old new
+  pub going : after.stopped ≡ false
   pub fewer : left_of after < left_of before
 
 -- No entry of the seat came, and all of the script is done.
-pub record Ends (old new : Seen) (after : Session) : Type 0 where
+pub record Ends (marginals : Marginals) (old new : Seen) (after : Session) : Type 0 where
   pub same : new ≡ old
   pub running : IsRunning marginals after.number new.start after.script new.journal (standing_of after)
   pub ended : IsEnded (standing_of after)
 
 -- No entry of the seat came, and want of memory has stopped the session.
-pub record Stops (alone : Type 0) (old new : Seen) (before after : Session) : Type 0 where
+pub record Stops (marginals : Marginals) (alone : Type 0) (old new : Seen) (before after : Session) : Type 0 where
   pub others : List Entry
   pub theirs : AreOthers before.number others
   pub none : alone → others ≡ []
@@ -94,7 +98,7 @@ pub record Stops (alone : Type 0) (old new : Seen) (before after : Session) : Ty
   pub stopped : IsStopped marginals after.number new.start after.script new.journal (standing_of after)
 
 -- what a call of `advance` did
-abbrev pub Came : Progress → Type 0 → Seen → Seen → Session → Session → Type 0
-Came Moved alone old new before after = Makes alone old new before after
-Came Ended alone old new before after = Ends old new after
-Came Stopped alone old new before after = Stops alone old new before after
+abbrev pub Came : Marginals → Progress → Type 0 → Seen → Seen → Session → Session → Type 0
+Came marginals Moved alone old new before after = Makes alone old new before after
+Came marginals Ended alone old new before after = Ends marginals old new after
+Came marginals Stopped alone old new before after = Stops marginals alone old new before after

@@ -1,21 +1,32 @@
 -- Where the code's session stands.
-use Rattle.std.specs.Prelude.{◌≡◌, ◌≢◌, ℕ, [], map, false, Option, Some, None, option_map}
+use Rattle.std.specs.Prelude.{◌≡◌, ◌≢◌, ℕ, List, [], ◌∷◌, map, false, Option, Some, None, option_map}
 use Rattle.std.specs.Arc.{arc_value}
 use Rattle.cg_meaning.specs.Tree.{Name}
-use Rattle.cg_meaning.specs.Sequence.{IsPlainSequence}
+use Rattle.cg_meaning.specs.Scene.{Grid, Scene, scene_of}
+use Rattle.cg_curve.specs.Curves.{NamedCurve}
 use Rattle.cg_sharing.specs.Command as command
 use Rattle.cg_sharing.specs.Command.{Command, Line}
 use Rattle.cg_sharing.specs.Versions.{Head, State, chronology_of}
-use Rattle.cg_sharing.specs.Journal.{IsInOrder, BringsPlain}
+use Rattle.cg_sharing.specs.Journal.{IsInOrder}
 use Rattle.cg_sharing.specs.Course.{Marginals, Place}
-use Rattle.cg_up.specs.Recipe.{recipe}
+use Rattle.cg_recipe.specs.Recipe.{recipe}
+use Rattle.cg_up.specs.Curve.{rows_at}
 use Rattle.cg_session.specs.declared.standing.Base.{Base}
 use Rattle.cg_session.specs.declared.standing.Version.{Version}
 use Rattle.cg_session.specs.declared.standing.Standing.{Standing}
 
--- the marginals that sessions print
-abbrev pub marginals : Marginals
-marginals tree scene event = recipe tree scene event
+-- the number of the curve that serves all radiocarbon dates: that of the first, and 0 where there is none
+abbrev pub curve_number : List NamedCurve → ℕ
+curve_number [] = 0
+curve_number (first ∷ others) = 1
+
+-- a grid with that curve
+abbrev pub scene_in : Grid → List NamedCurve → Scene
+scene_in grid curves = scene_of grid (rows_at curves (curve_number curves))
+
+-- the marginals that sessions print by these curves
+abbrev pub marginals_on : List NamedCurve → Marginals
+marginals_on curves = record { curve = rows_at curves (curve_number curves); of = recipe }
 
 abbrev pub base_in : Base → Head
 base_in base = record { name = base.name; version = base.version }
@@ -39,18 +50,14 @@ abbrev pub HasText : State → Option Version → Type 0
 HasText state None = Unit {0}
 HasText state (Some version) = arc_value version.tree ≡ chronology_of state version.number
 
-abbrev pub HasPlain : Option Version → Type 0
-HasPlain None = Unit {0}
-HasPlain (Some version) = IsPlainSequence (arc_value version.tree)
-
 -- a copy of the name of an open or a commit, for its base
 abbrev pub IsSpare : Command → Option Name → Type 0
 IsSpare (command.Open name) spare = spare ≡ Some name
 IsSpare (command.Commit name) spare = spare ≡ Some name
 IsSpare other spare = spare ≡ None
 
--- a change is in order and brings what sessions may bring, and a print names something
+-- a change is in order, and a print names something
 abbrev pub IsReady : Command → Type 0
-IsReady (command.Change edit) = IsInOrder edit × BringsPlain edit
+IsReady (command.Change edit) = IsInOrder edit
 IsReady (command.Print name) = name ≢ []
 IsReady other = Unit {0}

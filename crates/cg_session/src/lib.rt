@@ -5,6 +5,7 @@
 #![tactic(auto)]
 
 mod cause;
+mod cover;
 mod lines;
 mod port;
 mod search;

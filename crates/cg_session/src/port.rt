@@ -16,11 +16,15 @@ pub trait Port {
     // that no other seat makes entries
     ghost alone: { Self → Type 0 };
 
+    // the name of the reference that it holds
+    ghost lent: { Self → ℕ };
+
     /// One event. The reply is the answer of the seat's new entry, which stands behind those that other seats made
     /// meanwhile. Want of memory makes no entry.
     fn event(&mut self, alloc: Global, event: Event) -> Reply
         requires legal { IsLegal (seen self.old).start (seen self.old).journal }
         requires may { May (state_of (seen self.old)) (asked event) }
+        ensures lent { lent self.new ≡ lent self.old }
         ensures seat { seat self.new ≡ seat self.old }
         ensures alone { alone self.old → alone self.new }
         ensures legal { IsLegal (seen self.new).start (seen self.new).journal }
@@ -41,6 +45,8 @@ impl Port for BookPort<'_> {
     ghost seen = { λ port. port.book.now };
 
     ghost alone = { λ _. Unit {0} };
+
+    ghost lent = { λ port. port.book.ghost_name };
 
     fn event(&mut self, alloc: Global, event: Event) -> Reply {
         self.book.apply(alloc, self.seat, event)

@@ -1,16 +1,20 @@
 //! The event that a print is for.
 ghost use Rattle.std.specs.Prelude.{◌≡◌, ◌≢◌, ◌<◌, [], IfOk, IfErr, Ok, Err};
-ghost use Rattle.cg_meaning.specs.Tree.{count_all};
+ghost use Rattle.cg_meaning.specs.Tree.{count_all, root_of};
+ghost use Rattle.cg_meaning.specs.Cover.{AreCovered};
 ghost use Rattle.cg_model.specs.Node.{tree_of};
 ghost use Rattle.cg_sharing.specs.Edit.{EditFault, kind_of};
 ghost use Rattle.cg_sharing.specs.Texts.{Fault};
-ghost use Rattle.cg_sharing.specs.Course.{event_of};
+ghost use Rattle.cg_sharing.specs.Course.{event_of, event_in};
 ghost use Rattle.cg_edit.specs.Plain.{kind_in};
 ghost use Rattle.cg_session.specs.Cause.{cause_in};
+ghost use Rattle.cg_session.specs.Standing.{scene_in};
 
 use crate::cause::Cause;
+use crate::cover::weigh_all;
+use cg_curve::Curves;
 use cg_edit::Kind;
-use cg_model::{Found, ModelTree, Name, Node};
+use cg_model::{Found, Grid, ModelTree, Name, Node};
 
 fn kind_of(node: &Node) -> Kind
     ensures { kind_in result ≡ kind_of (tree_of node.now) }
@@ -25,9 +29,9 @@ fn kind_of(node: &Node) -> Kind
     }
 }
 
-/// The number of the event of a name that isn't empty, counted from 0 in the order of the text. The cause is that no
-/// node or several have the name, or that a group has it.
-pub(crate) fn event_of(model: &ModelTree, name: &Name) -> Result<u32, Cause>
+// The number of the event of a name that isn't empty, counted from 0 in the order of the text. The cause is that no
+// node or several have the name, or that a group has it.
+fn event_of(model: &ModelTree, name: &Name) -> Result<u32, Cause>
     requires { name.now ≢ [] }
     ensures ok { IfOk result (λ event. event_of name.now model.now.top ≡ Ok event) }
     ensures within { IfOk result (λ event. event < count_all model.now.top) }
@@ -40,5 +44,26 @@ pub(crate) fn event_of(model: &ModelTree, name: &Name) -> Result<u32, Cause>
             Some(event) => Ok(event),
             None => Err(Cause::WrongKind(kind_of(model.node(place)))),
         },
+    }
+}
+
+/// The number of the event of a name whose marginal can be printed. Where the name is an event's, the cause is that of the
+/// first event, in the order of the text, that can't be weighed.
+pub(crate) fn event_in(
+    model: &ModelTree,
+    name: &Name,
+    grid: &Grid,
+    curves: &Curves,
+) -> Result<u32, Cause>
+    requires { name.now ≢ [] }
+    ensures ok { IfOk result (λ event. event_in (scene_in grid.now curves.now) name.now model.now ≡ Ok event) }
+    ensures within { IfOk result (λ event. event < count_all model.now.top) }
+    ensures covered { IfOk result (λ _. AreCovered (root_of model.now) (scene_in grid.now curves.now)) }
+    ensures err { IfErr result (λ cause. event_in (scene_in grid.now curves.now) name.now model.now ≡ Err (cause_in cause)) }
+{
+    let event = event_of(model, name)?;
+    match weigh_all(model, grid, curves) {
+        Ok(()) => Ok(event),
+        Err(fault) => Err(Cause::of_cover(fault)),
     }
 }

@@ -1,7 +1,6 @@
 ghost use Rattle.std.specs.Prelude.{◌≡◌, ◌<◌, ◌≤◌, ◌+◌, length, slice_get, Some, true, false, vec_len, vec_capacity, IfOk, OnErr, MatchOption};
 ghost use Rattle.cg_sharing.specs.Command as spec;
-ghost use Rattle.cg_sharing.specs.Journal.{IsLegal};
-ghost use Rattle.cg_sharing.specs.Course.{answered, transcript_of, AreOthers};
+ghost use Rattle.cg_sharing.specs.Course.{Marginals, answered, transcript_of};
 ghost use Rattle.cg_book.specs.Plain as book;
 ghost use Rattle.cg_book.specs.Plain.{Seen, state_of, Carries};
 
@@ -9,10 +8,13 @@ use crate::port::Port;
 use crate::standing::{Standing, spare_of};
 use crate::transcript::Transcript;
 use cg_book::{Event, Reply};
+use cg_curve::Curves;
 use cg_model::Name;
 use cg_num::NoMemory;
 use cg_script::Script;
+use cg_table::Steps;
 use std::alloc::Global;
+use std::sync::ledger::Ledger;
 
 /// How far a call of `advance` came.
 #[derive(Clone, Copy, Debug, PartialEq, Eq)]
@@ -44,15 +46,16 @@ pub struct Session {
 }
 
 impl Session {
-    ghost use Rattle.cg_session.specs.Standing.{marginals, place_in, HasText, HasPlain, IsSpare};
+    ghost use Rattle.cg_session.specs.Standing.{marginals_on, place_in, HasText, IsSpare};
     ghost use Rattle.cg_session.specs.Transcript.{HasRoom};
-    ghost use Rattle.cg_session.specs.Session.{seat_of, script_of, left_of, standing_of, AreReady, IsAt, IsStart, IsSame, IsPrepared, Came};
+    ghost use Rattle.cg_session.specs.Session.{seat_of, script_of, left_of, standing_of, AreReady, IsFresh, IsAt, IsSame, IsPrepared, Came};
 
     /// A session before its first command.
     pub fn new(alloc: Global, number: u32, script: Script) -> Result<Session, NoMemory>
         requires { AreReady script }
-        ensures at { IfOk result (λ session. (seen : Seen) → IsLegal seen.start seen.journal → AreOthers number seen.journal → IsAt seen session) }
+        ensures at { IfOk result (λ session. (marginals : Marginals) (seen : Seen) → IsFresh number seen → IsAt marginals seen session) }
         ensures same { IfOk result (λ session. (seat_of session ≡ number) × (script_of session ≡ script)) }
+        ensures going { IfOk result (λ session. (standing_of session).stopped ≡ false) }
     {
         let standing = Standing {
             transcript: Transcript::begin(alloc, number)?,
@@ -70,12 +73,16 @@ impl Session {
     }
 
     // Does the commands up to the next event, and prepares that event, if there is one.
-    fn prepare(&mut self, alloc: Global) -> Result<Option<Asked>, NoMemory>
+    fn prepare<L: Ledger>(
+        &mut self,
+        alloc: Global,
+        curves: &Curves,
+        steps: &mut Steps<L>,
+    ) -> Result<Option<Asked>, NoMemory>
         requires ready { AreReady self.old.script }
         requires within { self.old.done ≤ length self.old.script }
-        requires plain { HasPlain self.old.standing.version }
         ensures same { IsSame self.old self.new }
-        ensures at { (seen : Seen) → self.old.stopped ≡ false → IsAt seen self.old → IsAt seen self.new }
+        ensures at { (seen : Seen) → self.old.stopped ≡ false → IsAt (marginals_on curves.now) seen self.old → IsAt (marginals_on curves.now) seen self.new }
         ensures forward { self.old.done ≤ self.new.done }
         ensures unfinished { OnErr result (self.new.done < length self.new.script) }
         ensures next { IfOk result (λ asked. MatchOption asked (self.new.done ≡ length self.new.script) (λ next. IsPrepared next self.new)) }
@@ -87,7 +94,7 @@ impl Session {
                 self.standing.make_room()?;
                 return Ok(Some(Asked { event, spare }));
             }
-            self.standing.run(alloc, line, command)?;
+            self.standing.run(alloc, line, command, curves, steps)?;
             self.done += 1;
         }
         Ok(None)
@@ -119,21 +126,30 @@ impl Session {
 
     /// Goes on until one event is made, the script is done or want of memory has stopped the session. `Ended` and
     /// `Stopped` make no event, and repeat.
-    pub fn advance<Q: Port>(&mut self, alloc: Global, port: &mut Q) -> Progress
+    ///
+    /// The first of the curves serves all radiocarbon dates. Each product of two enclosures in a print's tables is a step.
+    pub fn advance<Q: Port, L: Ledger>(
+        &mut self,
+        alloc: Global,
+        port: &mut Q,
+        curves: &Curves,
+        steps: &mut Steps<L>,
+    ) -> Progress
         requires seat { Q.seat port.old ≡ seat_of self.old }
-        requires start { IsStart (Q.seen port.old).start }
-        requires at { IsAt (Q.seen port.old) self.old }
+        requires at { IsAt (marginals_on curves.now) (Q.seen port.old) self.old }
         ensures same { (seat_of self.new ≡ seat_of self.old) × (script_of self.new ≡ script_of self.old) }
+        ensures lent { Q.lent port.new ≡ Q.lent port.old }
         ensures seat { Q.seat port.new ≡ Q.seat port.old }
         ensures alone { Q.alone port.old → Q.alone port.new }
         ensures start { (Q.seen port.new).start ≡ (Q.seen port.old).start }
-        ensures at { IsAt (Q.seen port.new) self.new }
-        ensures came { Came result (Q.alone port.old) (Q.seen port.old) (Q.seen port.new) self.old self.new }
+        ensures at { IsAt (marginals_on curves.now) (Q.seen port.new) self.new }
+        ensures came { Came (marginals_on curves.now) result (Q.alone port.old) (Q.seen port.old) (Q.seen port.new) self.old self.new }
+        ensures repeats { (standing_of self.old).stopped ≡ true → result ≡ Progress.Stopped }
     {
         if self.stopped {
             return Progress::Stopped;
         }
-        match self.prepare(alloc) {
+        match self.prepare(alloc, curves, steps) {
             Ok(Some(Asked { event, spare })) => {
                 let reply = port.event(alloc, event);
                 self.settle(spare, reply)

@@ -8,16 +8,20 @@ ghost use Rattle.cg_session.specs.Standing.{base_in, IsSpare};
 ghost use Rattle.cg_book.specs.Plain.{Seen, state_of, asked, Carries};
 
 use crate::cause::Cause;
+use crate::cover::curve_number;
 use crate::lines::{grid_line, marginal_lines};
-use crate::search::event_of;
+use crate::search::event_in;
 use crate::transcript::Transcript;
 use cg_book::{Event, Reply};
+use cg_curve::Curves;
 use cg_model::{Grid, ModelTree, Name};
 use cg_num::{NoMemory, Year};
 use cg_script::Command;
+use cg_table::Steps;
 use cg_up::evaluate;
 use std::alloc::Global;
 use std::sync::Arc;
+use std::sync::ledger::Ledger;
 
 /// The version that a session is at.
 #[derive(Drop)]
@@ -91,7 +95,7 @@ pub(crate) fn spare_of(alloc: Global, command: &Command) -> Result<Option<Name>,
 }
 
 impl Standing {
-    ghost use Rattle.cg_session.specs.Standing.{marginals, number_of, place_in, HasText, HasPlain, IsReady};
+    ghost use Rattle.cg_session.specs.Standing.{marginals_on, number_of, place_in, HasText, IsReady};
     ghost use Rattle.cg_session.specs.Transcript.{HasRoom};
 
     /// The event of a command, if it makes one here.
@@ -134,18 +138,24 @@ impl Standing {
     }
 
     /// Does a command that makes no event. Without memory all stays.
-    pub fn run(&mut self, alloc: Global, line: u32, command: &Command) -> Result<(), NoMemory>
+    pub fn run<L: Ledger>(
+        &mut self,
+        alloc: Global,
+        line: u32,
+        command: &Command,
+        curves: &Curves,
+        steps: &mut Steps<L>,
+    ) -> Result<(), NoMemory>
         requires ready { IsReady (command_in command.now) }
-        requires plain { HasPlain self.old.version }
         ensures ok { OnOk result ((state : State) → HasText state self.old.version
-            → place_in self.new ≡ done_at marginals state line (command_in command.now) (place_in self.old)) }
+            → place_in self.new ≡ done_at (marginals_on curves.now) state line (command_in command.now) (place_in self.old)) }
         ensures err { OnErr result (place_in self.new ≡ place_in self.old) }
         ensures version { self.new.version ≡ self.old.version }
     {
         self.transcript.make_room()?;
         match command {
             Command::Grid(older, younger) => self.set_grid(alloc, line, *older, *younger),
-            Command::Print(name) => self.print(alloc, line, name),
+            Command::Print(name) => self.print(alloc, line, name, curves, steps),
             _ => {
                 self.transcript.refuse(line, &Cause::NotOpen);
                 Ok(())
@@ -176,12 +186,18 @@ impl Standing {
         Ok(())
     }
 
-    fn print(&mut self, alloc: Global, line: u32, name: &Name) -> Result<(), NoMemory>
+    fn print<L: Ledger>(
+        &mut self,
+        alloc: Global,
+        line: u32,
+        name: &Name,
+        curves: &Curves,
+        steps: &mut Steps<L>,
+    ) -> Result<(), NoMemory>
         requires room { HasRoom self.old.transcript 64 }
         requires named { name.now ≢ [] }
-        requires plain { HasPlain self.old.version }
         ensures ok { OnOk result ((state : State) → HasText state self.old.version
-            → place_in self.new ≡ done_at marginals state line (spec.Print name.now) (place_in self.old)) }
+            → place_in self.new ≡ done_at (marginals_on curves.now) state line (spec.Print name.now) (place_in self.old)) }
         ensures err { OnErr result (place_in self.new ≡ place_in self.old) }
         ensures version { self.new.version ≡ self.old.version }
     {
@@ -193,9 +209,11 @@ impl Standing {
             self.transcript.refuse(line, &Cause::NoGrid);
             return Ok(());
         };
-        match event_of(&version.tree, name) {
+        match event_in(&version.tree, name, grid, curves) {
             Ok(event) => {
-                let marginal = evaluate(alloc, &version.tree, event, grid)?;
+                let curve = curve_number(curves);
+                let tree = &version.tree;
+                let marginal = evaluate(alloc, tree, event, grid, curves, curve, steps)?;
                 let text = marginal_lines(alloc, grid, name, version.number, &marginal)?;
                 self.transcript.append(&text)?;
             }

@@ -91,7 +91,7 @@ impl Transcript {
         match cause {
             Cause::NotOpen => self.put(b"not open"),
             Cause::NoGrid => self.put(b"no grid"),
-            Cause::GridLimit(cells) => self.put_cells(*cells),
+            Cause::GridLimit(cells) => self.put_signed(b"grid limit ", *cells),
             Cause::NoName => self.put(b"no name"),
             Cause::Ambiguous(count) => self.put_number(b"ambiguous ", *count),
             Cause::WrongKind(kind) => self.put_kind(*kind),
@@ -100,18 +100,22 @@ impl Transcript {
             Cause::NoVersion(count) => self.put_number(b"no version ", *count),
             Cause::NoParent => self.put(b"no parent"),
             Cause::Moved(head) => self.put_number(b"moved v", *head),
+            Cause::NoCurve => self.put(b"no curve"),
+            Cause::Uncovered(year) => self.put_signed(b"uncovered ", i64::from(year.bp())),
+            Cause::Far(year) => self.put_signed(b"far date ", i64::from(year.bp())),
         }
     }
 
-    fn put_cells(&mut self, cells: i64)
-        requires { HasRoom self.old 35 }
-        ensures items { self.new.bytes.items ≡ self.old.bytes.items ++ (codes "grid limit " ++ signed_decimal cells) }
+    fn put_signed(&mut self, label: &[u8], number: i64)
+        requires room { HasRoom self.old 35 }
+        requires short { length label.now ≤ 15 }
+        ensures items { self.new.bytes.items ≡ self.old.bytes.items ++ (label.now ++ signed_decimal number) }
         ensures len { vec_len self.new.bytes ≤ vec_len self.old.bytes + 35 }
         ensures capacity { vec_capacity self.old.bytes ≤ vec_capacity self.new.bytes }
     {
         let mut digits = Buffer::new();
-        self.put(b"grid limit ");
-        self.put(digits.format(cells).as_bytes());
+        self.put(label);
+        self.put(digits.format(number).as_bytes());
     }
 
     fn put_number(&mut self, label: &[u8], number: u32)

@@ -8,7 +8,7 @@ use Rattle.cg_sharing.specs.Command as command
 use Rattle.cg_sharing.specs.Command.{Command, Line}
 use Rattle.cg_sharing.specs.Versions.{State, Head, count_of, head_of, parent_of, chronology_of}
 use Rattle.cg_sharing.specs.Journal as journal
-use Rattle.cg_sharing.specs.Journal.{Act, Answer, Entry, at_or, made_or, is_base, committed_or, answer_of, with_result, changed_by, after, state_after, May, IsLegal, IsInOrder, BringsPlain}
+use Rattle.cg_sharing.specs.Journal.{Act, Answer, Entry, at_or, made_or, is_base, committed_or, answer_of, with_result, changed_by, after, state_after, May, IsLegal, IsInOrder}
 use Rattle.cg_sharing.specs.Course.{Marginals, Place, act_of, first_act, next, grid_of, with_grid, done_at, settled, entrance_of, begin, with_base, bases_after, answered, went_on, went, moved, walk, AreOthers, Follows, IsRunning, IsFit, AreFit}
 use Rattle.cg_sharing.proofs.JournalLemmas.{IsBelow, AreBelow, IsClosed, IsBelow-more, AreBelow-more, head_of-below, parent_of-below, grows-changed_by, count_of-with_version, commit-known, closed-changed_by}
 
@@ -164,7 +164,7 @@ may_do state place (command.Grid older younger) act knows fit is = absurd (cc)
 may_do state place (command.Open name) act knows fit is = let same : journal.Head name ≡ act = cc in subst (λ a. May state a) same tt
 may_do state place (command.Take version) act knows fit is = let same : journal.Take version ≡ act = cc in subst (λ a. May state a) same tt
 may_do state place command.Undo act knows fit is = may_on state (λ v. journal.Undo v) place.version act (λ v known. known) knows.version is
-may_do state place (command.Change edit) act knows fit is = may_on state (λ v. journal.Change v edit) place.version act (λ v known. (known, fit.0, fit.1)) knows.version is
+may_do state place (command.Change edit) act knows fit is = may_on state (λ v. journal.Change v edit) place.version act (λ v known. (known, fit)) knows.version is
 may_do state place (command.Commit name) act knows fit is =
     let base = head_of name place.bases in
     may_on state (λ v. journal.Commit name base v) place.version act (λ v known. may_commit state name base v (head_of-below (count_of state) name place.bases knows.bases) known) knows.version is

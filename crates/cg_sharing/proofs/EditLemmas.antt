@@ -1,11 +1,7 @@
 -- What a change is that is accepted.
-use Rattle.std.proofs.Common.{◌≡◌, ◌≤◌, true, false, cond, List, [], ◌∷◌, refl, sym, subst, Option, Some, None, Ok}
-use Rattle.std.specs.Prelude.{nat_lt}
-use Rattle.std.proofs.lemmas.Bool.{ltb-false}
-use Rattle.cg_meaning.specs.Tree.{Tree, Trees, count_all}
-use Rattle.cg_model.specs.Limits.{groups_in, depth_in}
+use Rattle.std.proofs.Common.{◌≡◌, List, [], ◌∷◌, refl, sym, subst, Option, Some, None, Ok}
+use Rattle.cg_meaning.specs.Tree.{Tree, Trees}
 use Rattle.cg_model.specs.declared.model.Limit.{Limit}
-use Rattle.cg_model.specs.declared.model.Limit.TheVariants.{Events, Groups, Depth}
 use Rattle.cg_sharing.specs.Edit.{Edit, NodeKind, target_of, edited, wrong_kind, limit_passed, within, checked, named, result_for, result_of}
 
 -- one node has the name, its kind is right, and the changed statements pass no limit
@@ -34,11 +30,3 @@ for_nodes edit before after (node ∷ next ∷ others) only is = absurd (cc)
 pub accepted : (edit : Edit) (before after : Trees) → result_of edit before ≡ Ok after → IsAccepted edit before after
 unfolding result_of
 accepted edit before after is = for_nodes edit before after (named (target_of edit) before) refl is
-
--- statements that pass no limit have at most 100 events
-pub limit_passed-few : (ts : Trees) → limit_passed ts ≡ None → count_all ts ≤ 100
-limit_passed-few ts is =
-    elim (nat_lt 100 (count_all ts)) as (λ b. nat_lt 100 (count_all ts) ≡ b → cond b (Some Events) (cond (nat_lt 60 (groups_in ts)) (Some Groups) (cond (nat_lt 16 (depth_in ts)) (Some Depth) None)) ≡ None → count_all ts ≤ 100) [
-      | true ↦ λ more_than passed. absurd (cc)
-      | false ↦ λ at_most passed. ltb-false 100 (count_all ts) at_most
-    ] refl is

@@ -105,7 +105,7 @@ begins_running m start session (script ∷ scripts) fit =
 pub sound_begun : (m : Marginals) (models : List StartModel) (scripts : List (List Line)) → All AreFit scripts → IsSound m (start_of models) scripts (begun m models scripts)
 sound_begun m models scripts fit = record { legal = tt; state = refl; running = begins_running m (start_of models) 1 scripts fit }
 
-turns_taken-append : (m : Marginals) (xs ys : List ℕ) (world : World) → turns_taken m (xs ++ ys) world ≡ turns_taken m ys (turns_taken m xs world)
+pub turns_taken-append : (m : Marginals) (xs ys : List ℕ) (world : World) → turns_taken m (xs ++ ys) world ≡ turns_taken m ys (turns_taken m xs world)
 turns_taken-append m [] ys world = refl
 turns_taken-append m (x ∷ xs) ys world = turns_taken-append m xs ys (turn m x world)
 
@@ -114,10 +114,10 @@ slice_get-seam [] place behind = refl
 slice_get-seam (p ∷ front) place behind = slice_get-seam front place behind
 
 -- The place behind the first ones, which has this many lines left at most, while the others are as they were.
-record HasLeft (world : World) (front behind : List Place) (count : ℕ) : Type 0 where
-  place : Place
-  at : world.places ≡ front ++ place ∷ behind
-  few : length place.left ≤ count
+pub record HasLeft (world : World) (front behind : List Place) (count : ℕ) : Type 0 where
+  pub place : Place
+  pub at : world.places ≡ front ++ place ∷ behind
+  pub few : length place.left ≤ count
 
 act_shortens : (m : Marginals) (start : State) (scripts : List (List Line)) (world : World) (front behind : List Place) (count : ℕ) (place : Place) (act : Option Act) → IsClosed start → IsSound m start scripts world →
     world.places ≡ front ++ place ∷ behind → length place.left ≤ suc count → next place ≡ act → HasLeft (world_after m (suc (length front)) place act world) front behind count
@@ -150,14 +150,14 @@ turn_shortens m start scripts world front behind count closed sound has =
     subst P (sym here) (act_shortens m start scripts world front behind count has.place (next has.place) closed sound has.at has.few refl)
 
 -- as many turns as it has lines left bring it to its end
-turns_end : (m : Marginals) (start : State) (scripts : List (List Line)) (count : ℕ) (world : World) (front behind : List Place) → IsClosed start → IsSound m start scripts world →
+pub turns_end : (m : Marginals) (start : State) (scripts : List (List Line)) (count : ℕ) (world : World) (front behind : List Place) → IsClosed start → IsSound m start scripts world →
     HasLeft world front behind count → HasLeft (turns_taken m (replicate count (suc (length front))) world) front behind 0
 turns_end m start scripts zero world front behind closed sound has = has
 turns_end m start scripts (suc count) world front behind closed sound has =
     let session = suc (length front) in
     turns_end m start scripts count (turn m session world) front behind closed (sound_turn m start scripts world session closed sound) (turn_shortens m start scripts world front behind count closed sound has)
 
-no_lines : (lines : List Line) → length lines ≤ 0 → lines ≡ []
+pub no_lines : (lines : List Line) → length lines ≤ 0 → lines ≡ []
 no_lines [] few = refl
 no_lines (line ∷ lines) few = absurd (omega arith)
 

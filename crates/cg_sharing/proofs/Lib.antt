@@ -1,6 +1,5 @@
 pub mod EditCases
 pub mod EditLemmas
-pub mod PlainLemmas
 pub mod JournalLemmas
 pub mod CourseLemmas
 pub mod ReachLemmas

@@ -1,15 +1,15 @@
 -- A session that does its script line by line.
 use Rattle.std.proofs.Common.{◌≡◌, ℕ, zero, suc, ◌<◌, cond, is_some, List, [], ◌∷◌, ◌++◌, length, refl, sym, ap, subst, ◌∙◌, arith, append_assoc, Option, Some, None, Result, Ok, Err, ℤ}
 use Rattle.std.specs.Prelude.{slice_get}
-use Rattle.cg_meaning.specs.Tree.{Name, Trees}
-use Rattle.cg_meaning.specs.Scene.{Grid}
+use Rattle.cg_meaning.specs.Tree.{Name, Trees, root_of}
+use Rattle.cg_meaning.specs.Scene.{Grid, scene_of}
 use Rattle.cg_sharing.specs.Edit.{EditFault, result_of}
 use Rattle.cg_sharing.specs.Command as command
 use Rattle.cg_sharing.specs.Command.{Command, Line}
 use Rattle.cg_sharing.specs.Versions.{Version, State, count_of, chronology_at, chronology_of}
 use Rattle.cg_sharing.specs.Journal as journal
 use Rattle.cg_sharing.specs.Journal.{Act, Answer, Entry, with_result, changed_by, after, state_after}
-use Rattle.cg_sharing.specs.Course.{Marginals, Place, act_of, next, grid_of, told, with_grid, event_of, event_lines, print_lines, done_at, settled, entrance_of, answered, AreOthers, IsRunning, Reaches}
+use Rattle.cg_sharing.specs.Course.{Marginals, Place, act_of, next, grid_of, told, with_grid, event_in, event_lines, print_lines, done_at, settled, entrance_of, answered, AreOthers, IsRunning, Reaches}
 use Rattle.cg_sharing.proofs.JournalLemmas.{state_after-append, grows-changed_by}
 use Rattle.cg_sharing.proofs.CourseLemmas.{running-others, running-own, keeps-done_at, act_of-left}
 
@@ -42,7 +42,8 @@ chronology_of-state_after state (e ∷ es) number known =
 print_lines-same : (m : Marginals) (s t : State) (number : ℕ) (name : Name) (version : Option ℕ) (grid : Option Grid) → SameText s t version → print_lines m s number name version grid ≡ print_lines m t number name version grid
 print_lines-same m s t number name None grid same = refl
 print_lines-same m s t number name (Some version) None same = refl
-print_lines-same m s t number name (Some version) (Some grid) same = ap (λ c. event_lines m number name version grid c (event_of name c.top)) same
+print_lines-same m s t number name (Some version) (Some grid) same =
+    let scene = scene_of grid m.curve in ap (λ c. event_lines m number name version scene (root_of c) (event_in scene name c)) same
 
 done_at-same : (m : Marginals) (s t : State) (number : ℕ) (c : Command) (place : Place) → SameText s t place.version → done_at m s number c place ≡ done_at m t number c place
 done_at-same m s t number (command.Grid older younger) place same = refl

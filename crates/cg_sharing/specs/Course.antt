@@ -1,8 +1,10 @@
 -- What a session does with its script: the acts, one at a time, and what it writes. chron's own.
 use Rattle.std.specs.Prelude.{◌≡◌, ◌≢◌, ◌⊎◌, ℕ, ◌+◌, ◌<◌, nat_eq, Bool, true, false, ◌&&◌, is_some, List, [], ◌∷◌, ◌++◌, length, take, drop, slice_get, bytes_eq, Option, Some, None, option_map, Result, Ok, Err, ℤ, pos, int_le, unsigned_abs, if◌then◌else◌}
 use Rattle.std.specs.List.{All}
-use Rattle.cg_meaning.specs.Tree.{Name, Tree, Trees, nodes_of_all, Chronology, root_of}
-use Rattle.cg_meaning.specs.Scene.{Grid, Scene, scene_on}
+use Rattle.cg_meaning.specs.Tree.{Name, Tree, Trees, datings_of, nodes_of_all, Chronology, root_of}
+use Rattle.cg_meaning.specs.Curve.{Curve}
+use Rattle.cg_meaning.specs.Scene.{Grid, Scene, scene_of}
+use Rattle.cg_meaning.specs.Cover.{CoverFault, first_fault}
 use Rattle.cg_model.specs.Grid.{cells_from}
 use Rattle.cg_model.specs.Found.{found_in}
 use Rattle.cg_model.specs.Event.{number_at}
@@ -13,13 +15,15 @@ use Rattle.cg_sharing.specs.Command as command
 use Rattle.cg_sharing.specs.Command.{Command, Line}
 use Rattle.cg_sharing.specs.Versions.{State, Head, head_of, chronology_of}
 use Rattle.cg_sharing.specs.Journal as journal
-use Rattle.cg_sharing.specs.Journal.{Act, Answer, Entry, after, state_after, IsInOrder, BringsPlain}
+use Rattle.cg_sharing.specs.Journal.{Act, Answer, Entry, after, state_after, IsInOrder}
 use Rattle.cg_sharing.specs.Texts as texts
 use Rattle.cg_sharing.specs.Texts.{Cause, session_line, end_line, stopped_line, at_line, made_line, committed_line, refused_line, grid_line, marginal_lines}
 
--- the marginal of an event of a tree: a pair for each cell, or nothing where it is impossible
-abbrev pub Marginals : Type 0
-Marginals = Tree → Scene → ℕ → Option (List (ℕ × ℕ))
+-- The marginals that sessions print: by the curve that serves all radiocarbon dates, without rows where there is none; and
+-- of a tree in a scene and an event, a pair for each cell, or nothing where it is impossible.
+pub record Marginals : Type 0 where
+  pub curve : Curve
+  pub of : Tree → Scene → ℕ → Option (List (ℕ × ℕ))
 
 -- Where a session is: the lines of its script that are left, what it has written, its version, its grid, the version
 -- that it last opened or committed by each name, and whether want of memory has stopped it.
@@ -85,19 +89,32 @@ event_found nodes (Many count) = Err (Ambiguous count)
 abbrev pub event_of : Name → Trees → Result ℕ EditFault
 event_of name top = event_found (nodes_of_all top) (found_in name (nodes_of_all top))
 
--- the lines of a print of a chronology's version
-abbrev pub event_lines : Marginals → ℕ → Name → ℕ → Grid → Chronology → Result ℕ EditFault → List ℕ
-event_lines marginals number name version grid chronology (Ok event) =
-    marginal_lines grid name version (marginals (root_of chronology) (scene_on grid) event)
-event_lines marginals number name version grid chronology (Err fault) = refused_line number (texts.Fault fault)
+-- an event, or why not each of the events can be weighed
+abbrev pub weighed_or : Option CoverFault → ℕ → Result ℕ Cause
+weighed_or (Some fault) event = Err (texts.Cover fault)
+weighed_or None event = Ok event
+
+-- an event that was found in a tree, or the cause: the first event at fault is told, in the order of the text
+abbrev pub weighed : Scene → Tree → Result ℕ EditFault → Result ℕ Cause
+weighed scene tree (Ok event) = weighed_or (first_fault scene (datings_of tree)) event
+weighed scene tree (Err fault) = Err (texts.Fault fault)
+
+-- the number of the event of a name, or why its marginal can't be printed: first for the name
+abbrev pub event_in : Scene → Name → Chronology → Result ℕ Cause
+event_in scene name chronology = weighed scene (root_of chronology) (event_of name chronology.top)
+
+-- the lines of a print of a tree's version
+abbrev pub event_lines : Marginals → ℕ → Name → ℕ → Scene → Tree → Result ℕ Cause → List ℕ
+event_lines marginals number name version scene tree (Ok event) = marginal_lines scene.grid name version (marginals.of tree scene event)
+event_lines marginals number name version scene tree (Err cause) = refused_line number cause
 
 -- the lines of a print, where the versions are these
 abbrev pub print_lines : Marginals → State → ℕ → Name → Option ℕ → Option Grid → List ℕ
 print_lines marginals state number name None grid = refused_line number texts.NotOpen
 print_lines marginals state number name (Some version) None = refused_line number texts.NoGrid
 print_lines marginals state number name (Some version) (Some grid) =
-    let chronology = chronology_of state version in
-    event_lines marginals number name version grid chronology (event_of name chronology.top)
+    let scene = scene_of grid marginals.curve in let chronology = chronology_of state version in
+    event_lines marginals number name version scene (root_of chronology) (event_in scene name chronology)
 
 -- a command that makes no act: a grid, a print, or one that needs a version where there is none
 abbrev pub done_at : Marginals → State → ℕ → Command → Place → Place
@@ -220,9 +237,9 @@ last_line true session = stopped_line session
 abbrev pub transcript_of : ℕ → Place → List ℕ
 transcript_of session place = place.text ++ last_line place.stopped session
 
--- a command's change is in order, and brings what sessions may bring
+-- a command's change is in order
 abbrev pub IsFit : Command → Type 0
-IsFit (command.Change edit) = IsInOrder edit × BringsPlain edit
+IsFit (command.Change edit) = IsInOrder edit
 IsFit other = Unit {0}
 
 abbrev pub AreFit : List Line → Type 0

@@ -1,8 +1,7 @@
 -- The journal of all events of the book, and what makes it legal. chron's own.
 use Rattle.std.specs.Prelude.{◌≡◌, ◌≢◌, ℕ, ◌<◌, nat_lt, nat_eq, List, [], ◌∷◌, Option, Some, None, Result, Ok, Err, if◌then◌else◌}
 use Rattle.std.specs.List.{All}
-use Rattle.cg_meaning.specs.Tree.{Name, Tree, Leaf, Boundary, Group, Trees, datings_of}
-use Rattle.cg_meaning.specs.Sequence.{IsPlain}
+use Rattle.cg_meaning.specs.Tree.{Name, Trees, datings_of}
 use Rattle.cg_model.specs.Limits.{IsInRange}
 use Rattle.cg_sharing.specs.Edit.{Edit, Set, Add, EditFault, result_of}
 use Rattle.cg_sharing.specs.Versions.{State, count_of, head_of, with_head, parent_of, chronology_of, with_version}
@@ -79,22 +78,12 @@ abbrev pub IsInOrder : Edit → Type 0
 IsInOrder (Set name dating) = (name ≢ []) × IsInRange dating
 IsInOrder (Add name node) = (name ≢ []) × All IsInRange (datings_of node)
 
--- what sessions may bring today: a leaf without an error
-abbrev pub IsPlainLeaf : Tree → Type 0
-IsPlainLeaf (Leaf name dating) = IsPlain dating
-IsPlainLeaf (Boundary name) = ⊥
-IsPlainLeaf (Group kind name ts) = ⊥
-
-abbrev pub BringsPlain : Edit → Type 0
-BringsPlain (Set name dating) = IsPlain dating
-BringsPlain (Add name node) = IsPlainLeaf node
-
 -- each version number of an act that is no question is known, and its change is in order
 abbrev pub May : State → Act → Type 0
 May state (Head name) = Unit {0}
 May state (Take version) = Unit {0}
 May state (Undo version) = version < count_of state
-May state (Change version edit) = (version < count_of state) × IsInOrder edit × BringsPlain edit
+May state (Change version edit) = (version < count_of state) × IsInOrder edit
 May state (Commit name None version) = version < count_of state
 May state (Commit name (Some base) version) = (base < count_of state) × (version < count_of state)
 

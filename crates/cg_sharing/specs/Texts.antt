@@ -4,6 +4,8 @@ use Rattle.std.specs.Fmt.{signed_decimal}
 use Rattle.cg_num.specs.Label.{label_of}
 use Rattle.cg_meaning.specs.Tree.{Name, Kind, Sequence, Phase, After, Before}
 use Rattle.cg_meaning.specs.Scene.{Grid, year_of}
+use Rattle.cg_meaning.specs.Cover as cover
+use Rattle.cg_meaning.specs.Cover.{CoverFault}
 use Rattle.cg_model.specs.declared.model.Limit.{Limit}
 use Rattle.cg_model.specs.declared.model.Limit.TheVariants.{Events, Groups, Depth}
 use Rattle.cg_sharing.specs.Edit.{NodeKind, a_leaf, a_boundary, a_group, EditFault, NoName, Ambiguous, WrongKind, Past}
@@ -18,6 +20,7 @@ pub data Cause : Type 0 where
   NoVersion : ℕ → Cause
   NoParent : Cause
   Moved : ℕ → Cause
+  Cover : CoverFault → Cause
 
 abbrev pub line : List ℕ → List ℕ
 line text = text ++ (10 ∷ [])
@@ -47,6 +50,11 @@ fault_text (Ambiguous count) = codes "ambiguous " ++ decimal count
 fault_text (WrongKind kind) = codes "wrong kind " ++ kind_text kind
 fault_text (Past limit) = limit_text limit
 
+abbrev pub cover_text : CoverFault → List ℕ
+cover_text cover.NoCurve = codes "no curve"
+cover_text (cover.Uncovered year) = codes "uncovered " ++ signed_decimal year
+cover_text (cover.Far year) = codes "far date " ++ signed_decimal year
+
 abbrev pub cause_text : Cause → List ℕ
 cause_text NotOpen = codes "not open"
 cause_text NoGrid = codes "no grid"
@@ -56,6 +64,7 @@ cause_text NoModel = codes "no model"
 cause_text (NoVersion count) = codes "no version " ++ decimal count
 cause_text NoParent = codes "no parent"
 cause_text (Moved head) = codes "moved " ++ version_text head
+cause_text (Cover fault) = cover_text fault
 
 -- the first line, by the session's number
 abbrev pub session_line : ℕ → List ℕ

@@ -2,19 +2,17 @@ use Rattle.std.proofs.Common.{◌≡◌, ◌∙◌, [], length, true, refl, sym,
 use Rattle.std.proofs.lemmas.Option.{slice_get_within}
 use Rattle.cg_book.specs.Plain.{asked, answered}
 use Rattle.cg_session.specs.Port.{Grows}
+use Rattle.cg_session.specs.Standing.{marginals_on}
 use Rattle.cg_session.specs.Session.{IsPrepared}
-use Rattle.cg_session.proofs.AdvanceLemmas.{may_at, plain_at, stopped_on, stands_stopped, ended_at, settled_at}
+use Rattle.cg_session.proofs.AdvanceLemmas.{may_at, stopped_on, stands_stopped, ended_at, settled_at}
 use Rattle.cg_session.proofs.session.Session.advance.Goals as goal
-
-pub prepare-requires-clause-plain : goal.prepare-requires-clause-plain
-prepare-requires-clause-plain g c = plain_at (g.Q.Port.seen c.args.port.now) c.args.self.now c.requires.start c.if-self.false c.requires.at
 
 pub event-reply-requires-clause-may : goal.event-reply-requires-clause-may
 event-reply-requires-clause-may g c =
     let seen = g.Q.Port.seen c.args.port.now in
     let s = c.prepare.new.self in
     let next : IsPrepared c.in-Ok-Some.field-0-0 s = rw c.in-Ok-Some.field-0-is at c.in-Ok-Some.ensures.next in
-    may_at seen s next.line (asked c.in-Ok-Some.field-0-0.event) c.requires.start (c.prepare.ensures.same.stopped ∙ c.if-self.false) (c.prepare.ensures.at seen c.if-self.false c.requires.at) next.here next.act
+    may_at (marginals_on c.args.curves.now) seen s next.line (asked c.in-Ok-Some.field-0-0.event) (c.prepare.ensures.same.stopped ∙ c.if-self.false) (c.prepare.ensures.at seen c.if-self.false c.requires.at) next.here next.act
 
 pub settle-requires-clause-within : goal.settle-requires-clause-within
 settle-requires-clause-within g c =
@@ -31,7 +29,7 @@ returns-in-Ok-Some-clause-at g c =
     let act = asked c.in-Ok-Some.field-0-0.event in
     let G : ℕ → Type 0 = λ n. Grows n (g.Q.Port.alone c.args.port.now) act (answered c.event-reply.result) seen new in
     let grows = subst G (c.requires.seat ∙ sym same.number) c.event-reply.ensures.grows in
-    (settled_at seen new (g.Q.Port.alone c.args.port.now) c.args.self.now s c.settle.new.self next.line act c.in-Ok-Some.field-0-0.spare c.settle.result (answered c.event-reply.result) c.requires.start (same.stopped ∙ c.if-self.false)
+    (settled_at (marginals_on c.args.curves.now) seen new (g.Q.Port.alone c.args.port.now) c.args.self.now s c.settle.new.self next.line act c.in-Ok-Some.field-0-0.spare c.settle.result (answered c.event-reply.result) (same.stopped ∙ c.if-self.false)
     (c.prepare.ensures.at seen c.if-self.false c.requires.at) same.number same.script c.prepare.ensures.forward next.here next.act next.spare grows c.event-reply.ensures.legal c.settle.ensures.same.0 c.settle.ensures.same.1
     (λ text. c.settle.ensures.text new text c.event-reply.ensures.carries) c.settle.ensures.came).0
 
@@ -45,7 +43,7 @@ returns-in-Ok-Some-clause-came g c =
     let act = asked c.in-Ok-Some.field-0-0.event in
     let G : ℕ → Type 0 = λ n. Grows n (g.Q.Port.alone c.args.port.now) act (answered c.event-reply.result) seen new in
     let grows = subst G (c.requires.seat ∙ sym same.number) c.event-reply.ensures.grows in
-    (settled_at seen new (g.Q.Port.alone c.args.port.now) c.args.self.now s c.settle.new.self next.line act c.in-Ok-Some.field-0-0.spare c.settle.result (answered c.event-reply.result) c.requires.start (same.stopped ∙ c.if-self.false)
+    (settled_at (marginals_on c.args.curves.now) seen new (g.Q.Port.alone c.args.port.now) c.args.self.now s c.settle.new.self next.line act c.in-Ok-Some.field-0-0.spare c.settle.result (answered c.event-reply.result) (same.stopped ∙ c.if-self.false)
     (c.prepare.ensures.at seen c.if-self.false c.requires.at) same.number same.script c.prepare.ensures.forward next.here next.act next.spare grows c.event-reply.ensures.legal c.settle.ensures.same.0 c.settle.ensures.same.1
     (λ text. c.settle.ensures.text new text c.event-reply.ensures.carries) c.settle.ensures.came).1
 
@@ -54,7 +52,7 @@ returns-in-Ok-None-clause-came g c =
     let seen = g.Q.Port.seen c.args.port.now in
     let s = c.prepare.new.self in
     let all : s.done ≡ length s.script = rw c.in-Ok-None.field-0-is at c.in-Ok-None.ensures.next in
-    let end = ended_at seen s (c.prepare.ensures.same.stopped ∙ c.if-self.false) (c.prepare.ensures.at seen c.if-self.false c.requires.at) all in
+    let end = ended_at (marginals_on c.args.curves.now) seen s (c.prepare.ensures.same.stopped ∙ c.if-self.false) (c.prepare.ensures.at seen c.if-self.false c.requires.at) all in
     record { same = refl; running = end.0; ended = end.1 }
 
 pub returns-in-Err-clause-at : goal.returns-in-Err-clause-at
@@ -64,10 +62,12 @@ returns-in-Err-clause-at g c =
     let run = c.prepare.ensures.same.stopped ∙ c.if-self.false in
     let at = c.prepare.ensures.at seen c.if-self.false c.requires.at in
     record {
+      models = at.models;
+      start = at.start;
       legal = at.legal;
       ready = at.ready;
       within = at.within;
-      stands = stopped_on seen seen s (record s { stopped = true }) [] run at c.in-Err.ensures.unfinished tt refl (sym (append-nil seen.journal)) refl refl refl refl refl;
+      stands = stopped_on (marginals_on c.args.curves.now) seen seen s (record s { stopped = true }) [] run at c.in-Err.ensures.unfinished tt refl (sym (append-nil seen.journal)) refl refl refl refl refl;
       text = at.text;
     }
 
@@ -77,12 +77,12 @@ returns-in-Err-clause-came g c =
     let s = c.prepare.new.self in
     let run = c.prepare.ensures.same.stopped ∙ c.if-self.false in
     let at = c.prepare.ensures.at seen c.if-self.false c.requires.at in
-    let stands = stopped_on seen seen s (record s { stopped = true }) [] run at c.in-Err.ensures.unfinished tt refl (sym (append-nil seen.journal)) refl refl refl refl refl in
+    let stands = stopped_on (marginals_on c.args.curves.now) seen seen s (record s { stopped = true }) [] run at c.in-Err.ensures.unfinished tt refl (sym (append-nil seen.journal)) refl refl refl refl refl in
     record {
       others = [];
       theirs = tt;
       none = λ _. refl;
       start = refl;
       journal = sym (append-nil seen.journal);
-      stopped = stands_stopped seen (record s { stopped = true }) refl stands;
+      stopped = stands_stopped (marginals_on c.args.curves.now) seen (record s { stopped = true }) refl stands;
     }

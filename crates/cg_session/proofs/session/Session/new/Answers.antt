@@ -8,4 +8,4 @@ use Rattle.cg_session.proofs.session.Session.new.Goals as goal
 pub returns-clause-at : goal.returns-clause-at
 returns-clause-at c =
     let place : List ℕ → List Base → Place = λ text bases. record { left = []; text = text; version = None; grid = None; bases = map base_in bases; stopped = false } in
-    λ seen legal others. begun_at seen _ refl refl refl (ap₂ place c.in_ok-begin.ensures c.new.ensures.items) c.requires legal others
+    λ marginals seen fresh. begun_at marginals seen _ refl refl refl (ap₂ place c.in_ok-begin.ensures c.new.ensures.items) c.requires fresh

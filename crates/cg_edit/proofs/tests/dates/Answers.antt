@@ -4,7 +4,7 @@ use Rattle.cg_meaning.specs.Tree.{Phase, Free}
 use Rattle.cg_model.specs.Limits.{IsInRange}
 use Rattle.cg_model.specs.Node.{trees_of}
 use Rattle.cg_model.proofs.PushLemmas.{AreInPlace-trees_with, AreInRange-trees_with}
-use Rattle.cg_edit.proofs.tests.phase.Goals as goal
+use Rattle.cg_edit.proofs.tests.dates.Goals as goal
 
 pub loop-preserved : goal.loop-preserved
 loop-preserved c = record {

@@ -1,7 +1,7 @@
 use Rattle.cg_meaning.specs.Tree.{Phase}
 use Rattle.cg_model.specs.Limits.{AreInPlace, AreInRange}
 use Rattle.cg_model.specs.Node.{trees_of}
-use Rattle.cg_edit.proofs.tests.phase.Given as goal
+use Rattle.cg_edit.proofs.tests.dates.Given as goal
 
 -- what a model asks of its statements
 abbrev pub invariant-loop : goal.invariant-loop
