@@ -1,0 +1,188 @@
+ghost use Rattle.std.specs.Prelude.{◌≡◌, ◌≢◌, ◌+◌, ◌<◌, ◌≤◌, ◌++◌, ◌∷◌, [], ℕ, List, length, map, vec_capacity, false, All, IfOk};
+ghost use Rattle.std.specs.List.{list_any};
+ghost use Rattle.cg_sharing.specs.Command.{Line};
+ghost use Rattle.cg_sharing.specs.Versions.{StartModel, start_of};
+ghost use Rattle.cg_sharing.specs.Journal.{IsLegal};
+ghost use Rattle.cg_sharing.specs.Course.{Marginals};
+ghost use Rattle.cg_session.specs.Standing.{marginals_on};
+ghost use Rattle.cg_session.specs.Session.{script_of, AreReady};
+ghost use Rattle.cg_turns.specs.Run.{written_in};
+ghost use Rattle.cg_turns.specs.Taking.{AreAt, is_stopped, transcript_in, CanGoOn, HaveTaken, HaveRunOut, IsOverAt, Advances};
+
+use crate::run::Run;
+use cg_book::Book;
+use cg_curve::Curves;
+use cg_num::NoMemory;
+use cg_script::Script;
+use cg_session::{BookPort, Progress, Session};
+use cg_table::Steps;
+use cg_versions::StartModels;
+use std::alloc::Global;
+use std::sync::ledger::Ledger;
+
+/// Sessions over one book, and whether want of memory has stopped one. The seat of a session is its place and one more.
+#[derive(Drop)]
+pub(crate) struct Sessions {
+    pub book: Book,
+    pub list: Vec<Session>,
+    pub stopped: bool,
+}
+
+// Sessions of these scripts, numbered from 1, before their first commands.
+fn begin(alloc: Global, scripts: Vec<Script>) -> Result<Vec<Session>, NoMemory>
+    requires ready { All AreReady scripts.items }
+    requires few { length scripts.items ≤ 8 }
+    ensures at { IfOk result (λ list. (marginals : Marginals) (models : List StartModel)
+        → AreAt marginals record { start = start_of models; journal = [] } 1 list.items) }
+    ensures read { IfOk result (λ list. map script_of list.items ≡ scripts.items) }
+    ensures going { IfOk result (λ list. list_any is_stopped list.items ≡ false) }
+{
+    let mut list = Vec::new(alloc);
+    for script in scripts {
+        let number = list.len() as u32 + 1;
+        list.push(Session::new(alloc, number, script)?)?;
+    }
+    Ok(list)
+}
+
+impl Sessions {
+    /// Sessions of these scripts over a book of these models, before their first commands.
+    pub fn new(
+        alloc: Global,
+        models: StartModels,
+        scripts: Vec<Script>,
+    ) -> Result<Sessions, NoMemory>
+        requires ready { All AreReady scripts.items }
+        requires few { length scripts.items ≤ 8 }
+        ensures can { IfOk result (λ all. (marginals : Marginals) → CanGoOn marginals all) }
+        ensures taken { IfOk result (λ all. (marginals : Marginals) → HaveTaken marginals models scripts.items [] all) }
+    {
+        let list = begin(alloc, scripts)?;
+        let book = Book::new(alloc, models)?;
+        Ok(Sessions {
+            book,
+            list,
+            stopped: false,
+        })
+    }
+
+    // Lets the session at a place advance once, and tells whether it made an event.
+    fn advance<L: Ledger>(
+        &mut self,
+        alloc: Global,
+        place: usize,
+        curves: &Curves,
+        steps: &mut Steps<L>,
+    ) -> bool
+        requires can { CanGoOn (marginals_on curves.now) self.old }
+        requires within { place < length self.old.list.items }
+        ensures { Advances (marginals_on curves.now) place result self.old self.new }
+    {
+        let mut port = BookPort {
+            book: &mut self.book,
+            seat: place as u32 + 1,
+        };
+        match self.list[place].advance(alloc, &mut port, curves, steps) {
+            Progress::Moved => true,
+            Progress::Ended => false,
+            Progress::Stopped => {
+                self.stopped = true;
+                false
+            }
+        }
+    }
+
+    // Lets the session of a number advance once, if there is one.
+    fn turn<L: Ledger>(
+        &mut self,
+        alloc: Global,
+        number: usize,
+        curves: &Curves,
+        steps: &mut Steps<L>,
+    )
+        requires { CanGoOn (marginals_on curves.now) self.old }
+        ensures can { CanGoOn (marginals_on curves.now) self.new }
+        ensures taken { (models : List StartModel) (scripts : List (List Line)) (turns : List ℕ)
+            → HaveTaken (marginals_on curves.now) models scripts turns self.old → HaveTaken (marginals_on curves.now) models scripts (turns ++ number ∷ []) self.new }
+    {
+        if 1 <= number && number <= self.list.len() {
+            self.advance(alloc, number - 1, curves, steps);
+        }
+    }
+
+    /// Lets sessions advance in the order of these numbers. A number that is no session's does nothing.
+    pub fn take_turns<L: Ledger>(
+        &mut self,
+        alloc: Global,
+        turns: &[u32],
+        curves: &Curves,
+        steps: &mut Steps<L>,
+    )
+        requires { CanGoOn (marginals_on curves.now) self.old }
+        ensures can { CanGoOn (marginals_on curves.now) self.new }
+        ensures taken { (models : List StartModel) (scripts : List (List Line)) (before : List ℕ)
+            → HaveTaken (marginals_on curves.now) models scripts before self.old → HaveTaken (marginals_on curves.now) models scripts (before ++ turns.now) self.new }
+    {
+        for number in turns {
+            self.turn(alloc, *number as usize, curves, steps);
+        }
+    }
+
+    // Lets the session at a place advance to its end.
+    fn finish<L: Ledger>(
+        &mut self,
+        alloc: Global,
+        place: usize,
+        curves: &Curves,
+        steps: &mut Steps<L>,
+    )
+        requires can { CanGoOn (marginals_on curves.now) self.old }
+        requires within { place < length self.old.list.items }
+        ensures can { CanGoOn (marginals_on curves.now) self.new }
+        ensures same { map script_of self.new.list.items ≡ map script_of self.old.list.items }
+        ensures taken { (models : List StartModel) (scripts : List (List Line)) (turns : List ℕ)
+            → HaveRunOut (marginals_on curves.now) models scripts turns place self.old → HaveRunOut (marginals_on curves.now) models scripts turns (place + 1) self.new }
+        ensures others { (other : ℕ) → other ≢ place → IsOverAt (marginals_on curves.now) other self.old → IsOverAt (marginals_on curves.now) other self.new }
+        ensures over { IsOverAt (marginals_on curves.now) place self.new }
+    {
+        while self.advance(alloc, place, curves, steps) {}
+    }
+
+    /// Lets all sessions advance to their ends, in their order.
+    pub fn finish_all<L: Ledger>(&mut self, alloc: Global, curves: &Curves, steps: &mut Steps<L>)
+        requires { CanGoOn (marginals_on curves.now) self.old }
+        ensures can { CanGoOn (marginals_on curves.now) self.new }
+        ensures same { map script_of self.new.list.items ≡ map script_of self.old.list.items }
+        ensures taken { (models : List StartModel) (scripts : List (List Line)) (turns : List ℕ)
+            → HaveRunOut (marginals_on curves.now) models scripts turns 0 self.old → HaveRunOut (marginals_on curves.now) models scripts turns (length self.old.list.items) self.new }
+        ensures over { (place : ℕ) → place < length self.old.list.items → IsOverAt (marginals_on curves.now) place self.new }
+    {
+        for place in 0..self.list.len() {
+            self.finish(alloc, place, curves, steps);
+        }
+    }
+
+    /// The journal, and what the sessions wrote. Takes no memory.
+    pub fn close(self, mut transcripts: Vec<Vec<u8>>) -> Run
+        requires none { transcripts.items ≡ [] }
+        requires room { length self.list.items ≤ vec_capacity transcripts }
+        ensures journal { result.journal ≡ self.book.journal }
+        ensures legal { IsLegal self.book.start result.journal }
+        ensures stopped { result.stopped ≡ self.stopped }
+        ensures written { written_in result ≡ map transcript_in self.list.items }
+    {
+        let Sessions {
+            book,
+            list,
+            stopped,
+        } = self;
+        for session in list {
+            transcripts.push_reserved(session.into_transcript());
+        }
+        Run {
+            journal: book.into_journal(),
+            transcripts,
+            stopped,
+        }
+    }
+}
