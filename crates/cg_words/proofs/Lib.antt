@@ -1,0 +1,10 @@
+pub mod AskLemmas
+pub mod CutLemmas
+pub mod FilesLemmas
+pub mod GivenLemmas
+pub mod ListsLemmas
+pub mod NamedLemmas
+pub mod OptionLemmas
+pub mod PartLemmas
+pub mod TestLemmas
+pub mod TurnLemmas

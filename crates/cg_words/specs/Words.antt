@@ -1,0 +1,163 @@
+-- What the words of the command line ask for.
+use Rattle.std.specs.Prelude.{◌≡◌, ◌≢◌, ◌⊎◌, ℕ, ◌<◌, ◌≤◌, Bool, ◌||◌, ◌==◌, IsTrue, List, [], ◌∷◌, ◌++◌, length, map, codes, All, AllPairs, Option, Some, None}
+use Rattle.std.specs.List.{Contains, join_with_byte}
+use Rattle.std.specs.Char.{is_ascii_digit, is_ascii_alphanumeric}
+use Rattle.std.specs.Str.{str_to_ascii_lowercase}
+use Rattle.cg_num.specs.Decimal.{number_of}
+
+-- a file that is known by a name: NAME=FILE
+pub record NamedFile : Type 0 where
+  pub name : List ℕ
+  pub file : List ℕ
+
+-- The files of the curves, those of the models, those of the session scripts, and the numbers of the sessions whose
+-- turns come one after another.
+pub record Request : Type 0 where
+  pub curves : List NamedFile
+  pub models : List NamedFile
+  pub sessions : List (List ℕ)
+  pub turns : List ℕ
+
+-- an ASCII letter or digit, `_`, `-` or `.`
+abbrev pub is_name_byte : ℕ → Bool
+is_name_byte byte = is_ascii_alphanumeric byte || byte == 95 || byte == 45 || byte == 46
+
+pub record IsName (name : List ℕ) : Type 0 where
+  pub some : 0 < length name
+  pub few : length name ≤ 64
+  pub bytes : All (λ byte. IsTrue (is_name_byte byte)) name
+
+-- commas part the files of a list
+pub record IsFile (file : List ℕ) : Type 0 where
+  pub some : 0 < length file
+  pub few : length file ≤ 240
+  pub no_comma : ¬ Contains file 44
+
+pub record IsNamedFile (named : NamedFile) : Type 0 where
+  pub name : IsName named.name
+  pub file : IsFile named.file
+
+abbrev pub text_of : NamedFile → List ℕ
+text_of named = named.name ++ (61 ∷ named.file)
+
+-- the text is no NAME=FILE
+abbrev pub NamesNothing : List ℕ → Type 0
+NamesNothing text = (named : NamedFile) → IsNamedFile named → text ≢ text_of named
+
+-- the names are equal, ASCII case aside
+abbrev pub IsSameName : List ℕ → List ℕ → Type 0
+IsSameName a b = str_to_ascii_lowercase a ≡ str_to_ascii_lowercase b
+
+-- A list of so many named files at most, no two of them with the same name.
+pub record AreNamed (most : ℕ) (IsSame : List ℕ → List ℕ → Type 0) (list : List ℕ) (named : List NamedFile) : Type 0 where
+  pub form : list ≡ join_with_byte 44 (map text_of named)
+  pub some : 0 < length named
+  pub few : length named ≤ most
+  pub files : All IsNamedFile named
+  pub distinct : AllPairs (λ a b. ¬ IsSame a.name b.name) named
+
+-- A list of the files of the sessions.
+pub record AreSessions (list : List ℕ) (sessions : List (List ℕ)) : Type 0 where
+  pub form : list ≡ join_with_byte 44 sessions
+  pub some : 0 < length sessions
+  pub few : length sessions ≤ 8
+  pub files : All IsFile sessions
+
+-- One to seven digits. The first may be zeros.
+pub record IsNumeral (numeral : List ℕ) : Type 0 where
+  pub some : 0 < length numeral
+  pub few : length numeral ≤ 7
+  pub digits : All (λ byte. IsTrue (is_ascii_digit byte)) numeral
+
+-- the number of one of so many sessions
+pub record IsTurn (sessions turn : ℕ) : Type 0 where
+  pub some : 1 ≤ turn
+  pub known : turn ≤ sessions
+
+-- A list of the numbers of sessions, of which there are so many.
+pub record AreTurns (sessions : ℕ) (list : List ℕ) (turns : List ℕ) : Type 0 where
+  pub numerals : List (List ℕ)
+  pub form : list ≡ join_with_byte 44 numerals
+  pub some : 0 < length turns
+  pub few : length turns ≤ 10000
+  pub digits : All IsNumeral numerals
+  pub numbers : turns ≡ map number_of numerals
+  pub known : All (IsTurn sessions) turns
+
+-- a list that may be left out, and is then empty
+abbrev pub MayBe : {A : Type 0} → (List ℕ → List A → Type 0) → Option (List ℕ) → List A → Type 0
+MayBe Are None items = items ≡ []
+MayBe Are (Some list) items = Are list items
+
+-- The lists of the four options. Two of them may be left out.
+pub record Lists : Type 0 where
+  pub curves : Option (List ℕ)
+  pub models : List ℕ
+  pub sessions : List ℕ
+  pub turns : Option (List ℕ)
+
+-- The lists ask for this.
+pub record AskFor (lists : Lists) (request : Request) : Type 0 where
+  pub curves : MayBe (AreNamed 4 IsSameName) lists.curves request.curves
+  pub models : AreNamed 8 ◌≡◌ lists.models request.models
+  pub sessions : AreSessions lists.sessions request.sessions
+  pub turns : MayBe (AreTurns (length request.sessions)) lists.turns request.turns
+
+-- an option, and the list behind it
+pub record Given : Type 0 where
+  pub option : List ℕ
+  pub list : List ℕ
+
+abbrev pub words_of : List Given → List (List ℕ)
+words_of [] = []
+words_of (given ∷ others) = given.option ∷ given.list ∷ words_of others
+
+abbrev pub IsOption : List ℕ → Type 0
+IsOption word = (word ≡ codes "--curves") ⊎ (word ≡ codes "--models") ⊎ (word ≡ codes "--sessions") ⊎ (word ≡ codes "--turns")
+
+-- the option stands with this list
+abbrev pub Stands : List Given → List ℕ → List ℕ → Type 0
+Stands given option list = Contains given (record { option = option; list = list })
+
+-- the option stands with this list, or is left out
+abbrev pub MayStand : List Given → List ℕ → Option (List ℕ) → Type 0
+MayStand given option None = All (λ one. one.option ≢ option) given
+MayStand given option (Some list) = Stands given option list
+
+-- The words are the command, and behind it options in any order, each at most once, with these lists.
+pub record AreLists (words : List (List ℕ)) (lists : Lists) : Type 0 where
+  pub given : List Given
+  pub form : words ≡ codes "alone" ∷ words_of given
+  pub known : All (λ one. IsOption one.option) given
+  pub once : AllPairs (λ a b. a.option ≢ b.option) given
+  pub curves : MayStand given (codes "--curves") lists.curves
+  pub models : Stands given (codes "--models") lists.models
+  pub sessions : Stands given (codes "--sessions") lists.sessions
+  pub turns : MayStand given (codes "--turns") lists.turns
+
+-- The words ask for this.
+pub record AreWords (words : List (List ℕ)) (request : Request) : Type 0 where
+  pub lists : Lists
+  pub stand : AreLists words lists
+  pub ask : AskFor lists request
+
+-- the words ask for nothing
+abbrev pub AreNoWords : List (List ℕ) → Type 0
+AreNoWords words = (request : Request) → ¬ AreWords words request
+
+-- words ask for one thing at most
+abbrev pub AskForOneThing : Type 0
+AskForOneThing = (words : List (List ℕ)) (x y : Request) → AreWords words x → AreWords words y → x ≡ y
+
+-- What every request keeps to.
+pub record IsRequest (request : Request) : Type 0 where
+  pub few_curves : length request.curves ≤ 4
+  pub curve_names : AllPairs (λ a b. ¬ IsSameName a.name b.name) request.curves
+  pub some_models : 0 < length request.models
+  pub few_models : length request.models ≤ 8
+  pub model_names : AllPairs (λ a b. a.name ≢ b.name) request.models
+  pub some_sessions : 0 < length request.sessions
+  pub few_sessions : length request.sessions ≤ 8
+  pub session_files : All IsFile request.sessions
+  pub few_turns : length request.turns ≤ 10000
+  pub turns_known : All (IsTurn (length request.sessions)) request.turns
