@@ -1,6 +1,4 @@
-pub mod CauseLemmas
-mod FilesLemmas
-mod OutcomeLemmas
+mod CauseLemmas
+mod InputsLemmas
+mod OutputLemmas
 mod RunLemmas
-mod TranscriptLemmas
-mod WordsLemmas

@@ -1,186 +1,50 @@
--- What a run of one model and one session comes to.
-use Rattle.std.proofs.Common.{◌≡◌, ℕ, zero, suc, ◌<◌, ◌≤◌, List, [], ◌∷◌, length, Option, Some, refl, sym, subst, append-nil, take, take_all, arith, Bool, IsTrue, IsFalse, ◌↔◌, ◌⊎◌, inl, inr}
-use Rattle.std.proofs.lemmas.Bool.{cases_lt}
-use Rattle.cg_io.specs.Causes.{Rose}
-use Rattle.std.specs.Prelude.{IfSome, slice_get}
+-- What sessions that ran come to.
+use Rattle.std.proofs.Common.{◌≡◌, ℕ, ◌<◌, Bool, true, false, List, take, length, Option, refl, sym, ap, subst, ◌∙◌}
+use Rattle.std.specs.List.{concat}
 use Rattle.cg_io.specs.Shelf.{Files}
 use Rattle.cg_io.specs.Sink.{Takes}
-use Rattle.cg_meaning.specs.Tree.{Chronology, root_of}
-use Rattle.cg_meaning.specs.Scene.{scene_on}
-use Rattle.cg_meaning.specs.Posterior.{IsMarginal}
-use Rattle.cg_form.specs.Model.{IsModel, HasNoModel}
-use Rattle.cg_form.specs.Script.{IsScript, HasNoScript}
-use Rattle.cg_form.specs.declared.script.Script.{Script}
-use Rattle.cg_marginal.specs.Pairs.{ArePairs}
-use Rattle.cg_up.specs.Recipe.{recipe}
-use Rattle.cg_run.specs.Words.{NamedFile, AreWords}
-use Rattle.cg_run.specs.Asked.{request_in, named_in, asked_in}
-use Rattle.cg_run.specs.Files.{Reads, ReadsAs, HasFault}
-use Rattle.cg_run.specs.Inputs.{AsksNothing}
-use Rattle.cg_run.specs.Transcript.{transcript_of}
-use Rattle.cg_run.specs.Run.{Reaches, LeadsTo, IsDone, IsCutOff, IsReadFault, IsRefused}
-use Rattle.cg_run.specs.Status.{status_of}
-use Rattle.cg_run.specs.declared.words.Request.{Request}
-use Rattle.cg_run.specs.declared.file.FileFault.{FileFault}
-use Rattle.cg_run.specs.declared.file.FileFault.TheVariants.{Failed, TooLong, Form, NoMemory}
-use Rattle.cg_run.specs.declared.status.FileKind.TheVariants.{Model, Session}
-use Rattle.cg_run.specs.declared.status.FileRef.{FileRef}
-use Rattle.cg_run.specs.declared.status.Status.{Status}
-use Rattle.cg_run.specs.declared.status.Status.TheVariants as ends
-use Rattle.cg_run.proofs.FilesLemmas.{next_finds, next_misses, two_reads}
+use Rattle.cg_sharing.specs.Versions.{start_of}
+use Rattle.cg_sharing.specs.Journal.{IsLegal}
+use Rattle.cg_session.specs.Standing.{marginals_on}
+use Rattle.cg_turns.specs.Run.{written_in, HasCourses, IsInterleaving}
+use Rattle.cg_turns.specs.declared.run.Run.{Run}
+use Rattle.cg_words.specs.Words.{Request}
+use Rattle.cg_files.specs.Inputs.{Inputs}
+use Rattle.cg_run.specs.Run.{AreAccepted, HaveRun, AreOfTurns, TakesAll, IsDone, IsCutOff, IsStopped, IsJournal}
 
--- what a status that ends a run at a file says
-abbrev pub Stops : List (List ℕ) → Option Files → Option Files → Status → Type 0
-Stops words told now ends.Done = Unit {0}
-Stops words told now ends.Usage = Unit {0}
-Stops words told now (ends.ReadFault file) = IsReadFault words told now file
-Stops words told now (ends.Refused file line cause) = IsRefused words told now file line cause
-Stops words told now ends.WriteFault = Unit {0}
-Stops words told now ends.NoMemory = Unit {0}
+-- the turns that the sessions took are those of the request
+pub turns_same : (inputs : Inputs) (taken turns : List ℕ) → taken ≡ turns → (run : Run) →
+    (run.stopped ≡ false → IsInterleaving (marginals_on inputs.curves) inputs.models inputs.scripts taken run) →
+    run.stopped ≡ false → IsInterleaving (marginals_on inputs.curves) inputs.models inputs.scripts turns run
+turns_same inputs taken turns same run whole = λ none. subst (λ ts. IsInterleaving (marginals_on inputs.curves) inputs.models inputs.scripts ts run) same (whole none)
 
-abbrev the_model : FileRef
-the_model = record { kind = Model; number = 1 }
-
-abbrev the_session : FileRef
-the_session = record { kind = Session; number = 1 }
-
--- a count that rose later rose
-pub rose_later : (before between now : ℕ) → before ≤ between → Rose between now → Rose before now
-rose_later before between now h rose = omega (arith, h, rose)
-
--- only a file's failed read ends in a read fault
-pub has_failed : (fault : FileFault) (mine file : FileRef) → status_of fault mine ≡ ends.ReadFault file → fault ≡ Failed
-has_failed Failed mine file e = refl
-has_failed TooLong mine file e = absurd cc
-has_failed Form mine file e = absurd cc
-has_failed NoMemory mine file e = absurd cc
-
-module _ (words : List (List ℕ)) (told : Option Files) (request : Request) (asks : AreWords words (request_in request)) where
-  abbrev reaches_model : Reaches words told the_model
-  reaches_model = record {
-    request = request_in request;
-    contents = [];
-    chronologies = [];
-    asked = [];
-    accepts = record { asks = asks; found = tt; accepted = record { models = tt; scripts = tt } };
-    name = request.model.file.now;
-    next = refl;
-    same = refl;
+module _ (words : List (List ℕ)) (told : Option Files) (request : Request) (inputs : Inputs) (run : Run) (accepts : AreAccepted words told request inputs)
+    (legal : IsLegal (start_of inputs.models) run.journal) (courses : HasCourses (marginals_on inputs.curves) inputs.models inputs.scripts run)
+    (whole : run.stopped ≡ false → IsInterleaving (marginals_on inputs.curves) inputs.models inputs.scripts request.turns run) where
+  abbrev ran_so : (stopped : Bool) → run.stopped ≡ stopped → HaveRun words told run.journal (concat (written_in run)) stopped
+  ran_so stopped is = record {
+    request = request;
+    inputs = inputs;
+    accepted = accepts;
+    legal = legal;
+    places = courses.places;
+    over = courses.over;
+    some = sym is ∙ courses.stopped;
+    written = ap concat courses.written;
   }
 
-  pub stops_at_model : (now : Option Files) (fault : FileFault) → HasFault told request.model.file.now HasNoModel fault → Reads 1 told now →
-      Stops words told now (status_of fault the_model)
-  stops_at_model now Failed h reads = record { cause = record { earlier = reaches_model; missed = h }; reads = reads }
-  stops_at_model now TooLong (bytes, finds, long) reads =
-      record { refusal = record { earlier = reaches_model; bytes = bytes; found = finds; fault = (refl, long) }; reads = reads }
-  stops_at_model now Form (bytes, finds, short, no_form) reads =
-      record { refusal = record { earlier = reaches_model; bytes = bytes; found = finds; fault = (refl, short, no_form) }; reads = reads }
-  stops_at_model now NoMemory h reads = tt
+  turns_of : run.stopped ≡ false → AreOfTurns request inputs run.journal (concat (written_in run))
+  turns_of none = record { events = (whole none).journal; written = ap concat (whole none).written }
 
-  module _ (model : Chronology) (read : ReadsAs told request.model.file.now (λ bytes. IsModel bytes model)) where
-    abbrev reaches_session : Reaches words told the_session
-    reaches_session = record {
-      request = request_in request;
-      contents = read.0 ∷ [];
-      chronologies = model ∷ [];
-      asked = [];
-      accepts = record { asks = asks; found = (read.1, read.2, tt); accepted = record { models = (read.3, tt); scripts = tt } };
-      name = request.session.now;
-      next = refl;
-      same = refl;
-    }
+  pub journal_of : IsJournal words told run.journal
+  journal_of = record { request = request; inputs = inputs; accepted = accepts; legal = legal }
 
-    -- the only place of one thing is the first
-    only_place : {A : Type 0} (place : ℕ) (a b : A) → slice_get (a ∷ []) place ≡ Some b → b ≡ a
-    only_place zero a b e = cc
-    only_place (suc place) a b e = absurd cc
+  module _ (before after : Option (List ℕ)) (taken : ℕ) where
+    pub done : (run.stopped ≡ false) × TakesAll before after (concat (written_in run)) taken → IsDone words told before after run.journal taken
+    done (none, all) = record { output = concat (written_in run); ran = ran_so false none; turns = turns_of none; took = all }
 
-    asks_nothing : (bytes : List ℕ) → HasNoScript bytes request.model.name.now model → AsksNothing (request_in request) (model ∷ []) bytes
-    asks_nothing bytes no_form asked asks =
-        let named = only_place asked.model (named_in request.model) asks.model asks.named in
-        let meant = only_place asked.model model asks.chronology asks.meant in
-        no_form asked.grid asked.event asked.name
-        (subst (λ chronology. IsScript bytes request.model.name.now chronology asked.grid asked.event asked.name) meant
-        (subst (λ (m : NamedFile). IsScript bytes m.name asks.chronology asked.grid asked.event asked.name) named asks.script))
+    pub stopped : (run.stopped ≡ true) × TakesAll before after (concat (written_in run)) taken → IsStopped words told before after run.journal taken
+    stopped (some, all) = record { output = concat (written_in run); ran = ran_so true some; took = all }
 
-    pub stops_at_session : (now last : Option Files) (fault : FileFault) →
-        HasFault now request.session.now (λ bytes. HasNoScript bytes request.model.name.now model) fault → Reads 1 told now → Reads 1 now last →
-        Stops words told last (status_of fault the_session)
-    stops_at_session now last Failed h reads more = record {
-      cause = record { earlier = reaches_session; missed = next_misses told now request.session.now reads h };
-      reads = two_reads told now last reads more;
-    }
-    stops_at_session now last TooLong (bytes, finds, long) reads more = record {
-      refusal = record {
-        earlier = reaches_session;
-        bytes = bytes;
-        found = next_finds told now request.session.now bytes reads finds;
-        fault = (refl, long);
-      };
-      reads = two_reads told now last reads more;
-    }
-    stops_at_session now last Form (bytes, finds, short, no_form) reads more = record {
-      refusal = record {
-        earlier = reaches_session;
-        bytes = bytes;
-        found = next_finds told now request.session.now bytes reads finds;
-        fault = (refl, short, asks_nothing bytes no_form);
-      };
-      reads = two_reads told now last reads more;
-    }
-    stops_at_session now last NoMemory h reads more = tt
-
-    pub leads_to : (now : Option Files) (script : Script) (marginal : Option (List (ℕ × ℕ))) (text : List ℕ) → Reads 1 told now →
-        ReadsAs now request.session.now (λ bytes. IsScript bytes request.model.name.now model script.grid script.event script.name) →
-        IsMarginal (root_of model) (scene_on script.grid) script.event marginal → marginal ≡ recipe (root_of model) (scene_on script.grid) script.event →
-        IfSome marginal ArePairs → text ≡ transcript_of 1 (asked_in 0 script) marginal →
-        LeadsTo words told text
-    leads_to now script marginal text reads (bytes, finds, short, spells) right by_recipe narrow same = record {
-      request = request_in request;
-      contents = read.0 ∷ bytes ∷ [];
-      chronologies = model ∷ [];
-      asked = asked_in 0 script ∷ [];
-      accepts = record {
-        asks = asks;
-        found = (read.1, read.2, (next_finds told now request.session.now bytes reads finds, short, tt));
-        accepted = record {
-          models = (read.3, tt);
-          scripts = (record { model = named_in request.model; chronology = model; named = refl; meant = refl; script = spells }, tt);
-        };
-      };
-      all = refl;
-      written = (
-        text,
-        [],
-        record { chronology = model; meant = refl; marginal = marginal; right = right; recipe = by_recipe; narrow = narrow; same = same },
-        refl,
-        sym (append-nil text),
-      );
-    }
-
-no_less : (n m : ℕ) → (n < m → ⊥) → m ≤ n
-no_less n m h = by_cases (cases_lt n m)
-  where
-    by_cases : (n < m) ⊎ (m ≤ n) → m ≤ n
-    by_cases (inl less) = absurd (h less)
-    by_cases (inr more) = more
-
-not_both : {b : Bool} → IsTrue b → IsFalse b → ⊥
-not_both t f = cc
-
--- all of the output was taken
-pub done : (words : List (List ℕ)) (told : Option Files) (before after : Option (List ℕ)) (taken : ℕ) (failed : Bool) (text : List ℕ) → LeadsTo words told text →
-    taken ≤ length text → (IsTrue failed ↔ (taken < length text)) → IsFalse failed → Takes before after (take taken text) → IsDone words told before after taken
-done words told before after taken failed text right within tells no_fault took =
-    let whole : length text ≤ taken = no_less taken (length text) (λ less. absurd (not_both (tells.1 less) no_fault)) in
-    record {
-      output = text;
-      right = right;
-      took = subst (λ bytes. Takes before after bytes) (take_all taken text whole) took;
-      count = omega (arith, whole, within);
-    }
-
--- only the first bytes of the output were taken
-pub cut_off : (words : List (List ℕ)) (told : Option Files) (before after : Option (List ℕ)) (taken : ℕ) (failed : Bool) (text : List ℕ) → LeadsTo words told text →
-    (IsTrue failed ↔ (taken < length text)) → IsTrue failed → Takes before after (take taken text) → IsCutOff words told before after taken
-cut_off words told before after taken failed text right tells fault took = record { output = text; right = right; took = took; fewer = tells.0 fault }
+    pub cut_off : taken < length (concat (written_in run)) → Takes before after (take taken (concat (written_in run))) → IsCutOff words told before after run.journal taken
+    cut_off fewer took = record { output = concat (written_in run); stopped = run.stopped; ran = ran_so run.stopped refl; turns = turns_of; took = took; fewer = fewer }

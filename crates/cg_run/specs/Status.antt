@@ -1,27 +1,44 @@
 -- The texts of statuses, and the exit codes of the program.
-use Rattle.std.specs.Prelude.{ℕ, List, [], ◌∷◌, ◌++◌, codes, decimal}
-use Rattle.cg_run.specs.declared.file.FileFault.{FileFault}
-use Rattle.cg_run.specs.declared.file.FileFault.TheVariants as faults
-use Rattle.cg_run.specs.declared.file.FileFault.TheVariants.{Failed}
-use Rattle.cg_run.specs.declared.status.FileKind.{FileKind}
-use Rattle.cg_run.specs.declared.status.FileKind.TheVariants.{Model, Session}
-use Rattle.cg_run.specs.declared.status.FileRef.{FileRef}
-use Rattle.cg_run.specs.declared.status.FileCause.{FileCause}
-use Rattle.cg_run.specs.declared.status.FileCause.TheVariants.{TooLong, Form}
+use Rattle.std.specs.Prelude.{ℕ, Bool, true, false, List, [], ◌∷◌, ◌++◌, codes, decimal}
+use Rattle.cg_curve.specs.declared.fault.CurveFault.{CurveFault}
+use Rattle.cg_curve.specs.declared.fault.CurveFault.TheVariants as curve
+use Rattle.cg_files.specs.declared.file.FileFault.{FileFault}
+use Rattle.cg_files.specs.declared.file.FileFault.TheVariants as faults
+use Rattle.cg_files.specs.declared.file.FileKind.{FileKind}
+use Rattle.cg_files.specs.declared.file.FileKind.TheVariants as kinds
+use Rattle.cg_files.specs.declared.file.FileRef.{FileRef}
+use Rattle.cg_files.specs.declared.file.FileCause.{FileCause}
+use Rattle.cg_files.specs.declared.file.FileCause.TheVariants.{TooLong, Curve, Form}
 use Rattle.cg_run.specs.declared.status.Status.{Status}
 use Rattle.cg_run.specs.declared.status.Status.TheVariants.{Done, Usage, ReadFault, Refused, WriteFault, NoMemory}
 
+-- the word for what a file is read for
 abbrev pub kind_text : FileKind → List ℕ
-kind_text Model = codes "model "
-kind_text Session = codes "session "
+kind_text kinds.Curve = codes "curve "
+kind_text kinds.Model = codes "model "
+kind_text kinds.Session = codes "session "
 
+-- a file by its kind and its number
 abbrev pub file_text : FileRef → List ℕ
 file_text file = kind_text file.kind ++ decimal file.number
 
+-- why a curve file is refused; want of memory is no cause
+abbrev pub curve_text : CurveFault → List ℕ
+curve_text (curve.BadRow line) = codes "bad row"
+curve_text (curve.OutOfRange line) = codes "out of range"
+curve_text (curve.Order line) = codes "order"
+curve_text (curve.Gap line) = codes "gap"
+curve_text (curve.TooMany line) = codes "too many"
+curve_text curve.TooFew = codes "too few"
+curve_text curve.NoMemory = codes "out of memory"
+
+-- why a file is refused
 abbrev pub cause_text : FileCause → List ℕ
 cause_text TooLong = codes "too long"
+cause_text (Curve fault) = curve_text fault
 cause_text Form = codes "form"
 
+-- the file, the line, and why
 abbrev pub refusal_text : FileRef → ℕ → FileCause → List ℕ
 refusal_text file line cause = file_text file ++ codes " line " ++ decimal line ++ codes ": " ++ cause_text cause
 
@@ -34,6 +51,7 @@ line_of (Refused file line cause) = refusal_text file line cause ++ (10 ∷ [])
 line_of WriteFault = codes "write fault\n"
 line_of NoMemory = codes "out of memory\n"
 
+-- the exit code of the program
 abbrev pub code_of : Status → ℕ
 code_of Done = 0
 code_of Usage = 2
@@ -42,9 +60,14 @@ code_of (Refused file line cause) = 4
 code_of WriteFault = 5
 code_of NoMemory = 6
 
--- the status of a fault of this file
-abbrev pub status_of : FileFault → FileRef → Status
-status_of Failed file = ReadFault file
-status_of faults.TooLong file = Refused file 0 TooLong
-status_of faults.Form file = Refused file 0 Form
-status_of faults.NoMemory file = NoMemory
+-- the status of a fault of a file
+abbrev pub status_of : FileFault → Status
+status_of (faults.Failed file) = ReadFault file
+status_of (faults.Refused file line cause) = Refused file line cause
+status_of faults.NoMemory = NoMemory
+
+-- the status once the sessions ran: whether a write failed, and whether want of memory stopped a session
+abbrev pub status_after : Bool → Bool → Status
+status_after true stopped = WriteFault
+status_after false true = NoMemory
+status_after false false = Done

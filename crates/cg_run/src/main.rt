@@ -2,13 +2,11 @@
 //! million that are proved to hold.
 #![tactic(auto)]
 
-mod file;
+mod output;
 mod status;
 #[cfg(test)]
 mod tests;
 mod top;
-mod transcript;
-mod words;
 
 use crate::status::{Status, status_line};
 use crate::top::run_alone;

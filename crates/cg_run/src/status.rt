@@ -1,39 +1,19 @@
 //! How a run ends.
 
 ghost use Rattle.std.specs.Prelude.{◌≡◌, ◌++◌, ◌∷◌, [], codes, IfOk, OnOk};
-ghost use Rattle.cg_run.specs.Status.{kind_text, cause_text, file_text, refusal_text, line_of, code_of};
+ghost use Rattle.cg_run.specs.Status.{kind_text, curve_text, cause_text, file_text, refusal_text, line_of, code_of};
 
+use cg_book::Journal;
+use cg_curve::CurveFault;
+use cg_files::{FileCause, FileKind, FileRef};
 use cg_num::NoMemory;
 use itoa::Buffer;
 use std::alloc::Global;
 
-/// What a file is read for.
-#[derive(Clone, Copy, Debug, PartialEq, Eq)]
-pub enum FileKind {
-    Model,
-    Session,
-}
-
-/// A file by its kind and its number in the list of that kind, from 1.
-#[derive(Clone, Copy, Debug, PartialEq, Eq)]
-pub struct FileRef {
-    pub kind: FileKind,
-    pub number: u32,
-}
-
-/// Why a file is refused.
-#[derive(Clone, Copy, Debug, PartialEq, Eq)]
-pub enum FileCause {
-    /// It has more than 4,194,304 bytes.
-    TooLong,
-    /// It isn't in the plain Form of its kind.
-    Form,
-}
-
 /// How a run ended.
 #[derive(Clone, Copy, Debug, PartialEq, Eq)]
 pub enum Status {
-    /// The whole output was taken.
+    /// Each session did all of its script, and the whole output was taken.
     Done,
     /// The words ask for nothing. No file was read.
     Usage,
@@ -47,10 +27,14 @@ pub enum Status {
     NoMemory,
 }
 
-/// A run's status, and the number of bytes that the sink took.
-#[derive(Clone, Copy, Debug, PartialEq, Eq)]
+/// A run's status, the journal of its sessions, and the number of bytes that the sink took.
+#[derive(Drop)]
 pub struct Ended {
+    /// How it ended.
     pub status: Status,
+    /// All events of the book that the sessions shared. Empty where no session began.
+    pub journal: Journal,
+    /// How many bytes of the output were taken.
     pub taken: u64,
 }
 
@@ -74,8 +58,23 @@ fn kind_text(kind: FileKind) -> &'static [u8]
     ensures { result.now ≡ kind_text kind }
 {
     match kind {
+        FileKind::Curve => b"curve ",
         FileKind::Model => b"model ",
         FileKind::Session => b"session ",
+    }
+}
+
+fn curve_text(fault: CurveFault) -> &'static [u8]
+    ensures { result.now ≡ curve_text fault }
+{
+    match fault {
+        CurveFault::BadRow(_) => b"bad row",
+        CurveFault::OutOfRange(_) => b"out of range",
+        CurveFault::Order(_) => b"order",
+        CurveFault::Gap(_) => b"gap",
+        CurveFault::TooMany(_) => b"too many",
+        CurveFault::TooFew => b"too few",
+        CurveFault::NoMemory => b"out of memory",
     }
 }
 
@@ -84,6 +83,7 @@ fn cause_text(cause: FileCause) -> &'static [u8]
 {
     match cause {
         FileCause::TooLong => b"too long",
+        FileCause::Curve(fault) => curve_text(fault),
         FileCause::Form => b"form",
     }
 }

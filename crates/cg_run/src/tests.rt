@@ -1,6 +1,9 @@
-mod order;
+mod dated;
 mod outside;
+mod printed;
 mod refusals;
+mod sharing;
+mod status;
 
 use crate::status::Ended;
 use crate::top::run_alone;
@@ -9,9 +12,6 @@ use std::test::Fail;
 
 /// Two events in order, which most of the cases run.
 const TWO_EVENTS: &str = "Sequence(\"s\"){Date(\"A\");Date(\"B\");};";
-
-/// A script for them.
-const PRINT_A: &str = "open main\ngrid 2002 2000\nprint \"A\"\n";
 
 /// The usual words: one model `m`, and one session script `s`.
 const WORDS: [&str; 5] = ["alone", "--models", "main=m", "--sessions", "s"];
@@ -24,11 +24,12 @@ fn words_of(rt: &HostRuntime, texts: &[&str]) -> Result<Vec<String>, Fail> {
     Ok(words)
 }
 
-/// A shelf with a model and a script.
-fn shelf_with(rt: &HostRuntime, model: &[u8], script: &[u8]) -> Result<MemShelf, Fail> {
+/// A shelf with these files by their names.
+fn shelf_of(rt: &HostRuntime, files: &[(&str, &str)]) -> Result<MemShelf, Fail> {
     let mut shelf = MemShelf::new(rt.alloc());
-    shelf.put("m", model)?;
-    shelf.put("s", script)?;
+    for (name, text) in files {
+        shelf.put(name, text.as_bytes())?;
+    }
     Ok(shelf)
 }
 
@@ -39,14 +40,14 @@ fn open_sink(rt: &HostRuntime) -> Result<MemSink, Fail> {
     Ok(sink)
 }
 
-/// The usual words over a model and a script.
-fn run_files(
+/// Words over files.
+fn run_words(
     rt: &HostRuntime,
-    model: &[u8],
-    script: &[u8],
+    texts: &[&str],
+    files: &[(&str, &str)],
     sink: &mut MemSink,
 ) -> Result<Ended, Fail> {
-    let mut shelf = shelf_with(rt, model, script)?;
-    let words = words_of(rt, WORDS.as_slice())?;
+    let mut shelf = shelf_of(rt, files)?;
+    let words = words_of(rt, texts)?;
     Ok(run_alone(rt.alloc(), &words, &mut shelf, sink))
 }

@@ -1,107 +1,144 @@
 //! The top call.
 
-ghost use Rattle.std.specs.Prelude.{◌≡◌, ◌⊎◌, ◌↔◌, map, string_bytes, IsTrue, IsFalse, Some};
+ghost use Rattle.std.specs.Prelude.{◌≡◌, ◌⊎◌, ◌<◌, ◌≤◌, [], false, length, map, string_bytes, All, IfOk, Some};
 ghost use Rattle.cg_io.specs.Causes.{Rose};
-ghost use Rattle.cg_run.specs.Words.{AreNoWords};
-ghost use Rattle.cg_run.specs.Run.{IsDone, IsCutOff, IsReadFault, IsRefused, Causes, LeadsTo};
+ghost use Rattle.cg_sharing.specs.Versions.{start_of};
+ghost use Rattle.cg_sharing.specs.Journal.{IsLegal};
+ghost use Rattle.cg_session.specs.Standing.{marginals_on};
+ghost use Rattle.cg_session.specs.Session.{AreReady};
+ghost use Rattle.cg_turns.specs.Run.{HasCourses, IsInterleaving};
+ghost use Rattle.cg_words.specs.Words.{AreNoWords};
+ghost use Rattle.cg_run.specs.Run.{AreAccepted, ReadsAll, IsDone, IsCutOff, IsStopped, IsJournal, EndsAt, Causes, BeginsNone};
+ghost use Rattle.cg_run.specs.Right.{AreRight};
 ghost use Rattle.cg_run.specs.Status.{status_of};
 
-use crate::file::{FileFault, model_of, script_of};
-use crate::status::{Ended, FileCause, FileKind, FileRef, Status};
-use crate::transcript::transcript;
-use crate::words::request_of;
-use cg_io::{Shelf, Sink, Written, write_whole};
-use cg_up::evaluate;
+use crate::output::write_run;
+use crate::status::{Ended, Status};
+use cg_book::Journal;
+use cg_files::{FileFault, Inputs, read_all};
+use cg_io::{Shelf, Sink};
+use cg_num::NoMemory;
+use cg_recipe::recipes_are_right;
+use cg_table::Steps;
+use cg_turns::{Run, run_in_turns};
+use cg_words::request_of;
 use std::alloc::Global;
+use std::marker::Brand;
+use std::sync::ledger::{Blank, Ledger};
 
-fn status_of(fault: FileFault, kind: FileKind) -> Status
-    ensures { result ≡ status_of fault (record { kind = kind; number = 1 }) }
+fn status_of(fault: FileFault) -> Status
+    ensures { result ≡ status_of fault }
 {
-    let file = FileRef { kind, number: 1 };
     match fault {
-        FileFault::Failed => Status::ReadFault(file),
-        FileFault::TooLong => Status::Refused(file, 0, FileCause::TooLong),
-        FileFault::Form => Status::Refused(file, 0, FileCause::Form),
+        FileFault::Failed(file) => Status::ReadFault(file),
+        FileFault::Refused(file, line, cause) => Status::Refused(file, line, cause),
         FileFault::NoMemory => Status::NoMemory,
     }
 }
 
-/// An end before anything was written.
-fn stopped(status: Status) -> Ended
+/// An end before a session began.
+fn unbegun(alloc: Global, status: Status) -> Ended
     ensures status { result.status ≡ status }
+    ensures journal { result.journal ≡ [] }
     ensures taken { result.taken ≡ 0 }
 {
-    Ended { status, taken: 0 }
-}
-
-/// An end after the output was written, whole or in part.
-fn ended(written: Written) -> Ended
-    ensures done { result.status ≡ Status.Done → IsFalse written.failed }
-    ensures cut_off { result.status ≡ Status.WriteFault → IsTrue written.failed }
-    ensures either { result.status ≡ Status.Done ⊎ (result.status ≡ Status.WriteFault) }
-    ensures taken { result.taken ≡ written.taken }
-{
     Ended {
-        status: if written.failed {
-            Status::WriteFault
-        } else {
-            Status::Done
-        },
-        taken: written.taken as u64,
+        status,
+        journal: Journal::new(alloc),
+        taken: 0,
     }
 }
 
-/// Runs the words of the command line: reads the model and the session script, and writes the session's transcript.
+/// Runs the sessions of the files in turns. Their products of enclosures are counted from 0.
+fn run_sessions<L: Ledger>(
+    alloc: Global,
+    inputs: Inputs,
+    turns: &[u32],
+    blank: Blank,
+) -> Result<Run, NoMemory>
+    requires ready { All AreReady inputs.scripts.items }
+    requires few { length inputs.scripts.items ≤ 8 }
+    requires name { blank.name ≡ L.name }
+    requires parts { blank.parts ≡ L.parts }
+    requires some { 0 < L.parts }
+    ensures legal { IfOk result (λ run. IsLegal (start_of inputs.models) run.journal) }
+    ensures courses { IfOk result (λ run. HasCourses (marginals_on inputs.curves) inputs.models inputs.scripts.items run) }
+    ensures whole { IfOk result (λ run. run.stopped ≡ false → IsInterleaving (marginals_on inputs.curves) inputs.models inputs.scripts.items turns.now run) }
+{
+    let mut steps = Steps::<L>::open(blank);
+    let Inputs {
+        curves,
+        models,
+        scripts,
+    } = inputs;
+    run_in_turns(alloc, models, scripts, turns, &curves, &mut steps)
+}
+
+/// Runs the words of the command line: reads the curves, the models and the session scripts, lets the sessions take
+/// turns over one book of the models, and writes their transcripts. The first curve serves all radiocarbon dates.
 pub fn run_alone<H: Shelf, K: Sink>(
     alloc: Global,
     words: &[String],
     shelf: &mut H,
     out: &mut K,
 ) -> Ended
-    // The transcripts of the files that the words name, and no more, were taken.
+    // Each session did all of its script, and its transcript was taken, and no more.
     ensures done { result.status ≡ Status.Done
-        → IsDone (map string_bytes words.now) (H.told shelf.old) (K.taken out.old) (K.taken out.new) result.taken }
+        → IsDone (map string_bytes words.now) (H.told shelf.old) (K.taken out.old) (K.taken out.new) result.journal result.taken }
 
     // Where the words ask for nothing, nothing is read.
-    ensures usage { (result.status ≡ Status.Usage) ↔ AreNoWords (map string_bytes words.now) }
-    ensures unread { result.status ≡ Status.Usage → shelf.new ≡ shelf.old }
+    ensures usage { result.status ≡ Status.Usage → AreNoWords (map string_bytes words.now) }
+    ensures no_words { AreNoWords (map string_bytes words.now) → (result.status ≡ Status.Usage) ⊎ (result.status ≡ Status.NoMemory) }
+    ensures unread { AreNoWords (map string_bytes words.now) → shelf.new ≡ shelf.old }
 
+    // Each file is read once, up to the first that is not accepted.
+    ensures once { (result.status ≡ Status.Done) ⊎ (result.status ≡ Status.WriteFault)
+        → ReadsAll (map string_bytes words.now) (H.told shelf.old) (H.told shelf.new) }
     ensures read_fault { (file : _) → result.status ≡ Status.ReadFault file
-        → IsReadFault (map string_bytes words.now) (H.told shelf.old) (H.told shelf.new) file × Rose (H.faults shelf.old) (H.faults shelf.new) }
+        → EndsAt (map string_bytes words.now) (H.told shelf.old) (H.told shelf.new) (FileFault.Failed file) × Rose (H.faults shelf.old) (H.faults shelf.new) }
     ensures refused { (file : _) (line : _) (cause : _) → result.status ≡ Status.Refused file line cause
-        → IsRefused (map string_bytes words.now) (H.told shelf.old) (H.told shelf.new) file line cause }
+        → EndsAt (map string_bytes words.now) (H.told shelf.old) (H.told shelf.new) (FileFault.Refused file line cause) }
 
     // The first bytes of the output were taken, up to the failed write.
     ensures write_fault { result.status ≡ Status.WriteFault
-        → IsCutOff (map string_bytes words.now) (H.told shelf.old) (K.taken out.old) (K.taken out.new) result.taken × Rose (K.faults out.old) (K.faults out.new) }
+        → IsCutOff (map string_bytes words.now) (H.told shelf.old) (K.taken out.old) (K.taken out.new) result.journal result.taken
+        × Rose (K.faults out.old) (K.faults out.new) }
+
+    // Where a session was stopped the output is written all the same; want of memory elsewhere writes nothing.
+    ensures no_memory { result.status ≡ Status.NoMemory
+        → IsStopped (map string_bytes words.now) (H.told shelf.old) (K.taken out.old) (K.taken out.new) result.journal result.taken
+        ⊎ ((out.new ≡ out.old) × (result.taken ≡ 0)) }
 
     // Where the shelf tells its files, each cause has its status, want of memory aside.
     ensures exact { (files : _) (status : _) → H.told shelf.old ≡ Some files → Causes (map string_bytes words.now) (Some files) status
         → (result.status ≡ status) ⊎ (result.status ≡ Status.NoMemory) }
 
     // Files that are accepted lead to an output that is written whole, but for want of memory or a fault of the sink.
-    ensures complete { (files : _) (output : _) → H.told shelf.old ≡ Some files → LeadsTo (map string_bytes words.now) (Some files) output
+    ensures complete { (files : _) (request : _) (inputs : _) → H.told shelf.old ≡ Some files → AreAccepted (map string_bytes words.now) (Some files) request inputs
         → ¬ Rose (K.faults out.old) (K.faults out.new) → (result.status ≡ Status.Done) ⊎ (result.status ≡ Status.NoMemory) }
 
-    // Before the output stands whole, nothing is written.
-    ensures unwritten { result.status ≡ Status.Done ⊎ (result.status ≡ Status.WriteFault) ⊎ ((out.new ≡ out.old) × (result.taken ≡ 0)) }
+    // Before a session began, nothing is written.
+    ensures unwritten { BeginsNone result.status → (out.new ≡ out.old) × (result.taken ≡ 0) × (result.journal ≡ []) }
+
+    // At every status.
+    ensures journal { (result.journal ≡ []) ⊎ IsJournal (map string_bytes words.now) (H.told shelf.old) result.journal }
+
+    // What transcripts print of an event holds under every admitted weighting.
+    ensures pairs { (request : _) (inputs : _) → AreAccepted (map string_bytes words.now) (H.told shelf.old) request inputs
+        → AreRight (marginals_on inputs.curves) }
 {
-    let Some(request) = request_of(words) else {
-        return stopped(Status::Usage);
+    recipes_are_right();
+    let request = match request_of(alloc, words) {
+        Ok(Some(request)) => request,
+        Ok(None) => return unbegun(alloc, Status::Usage),
+        Err(NoMemory) => return unbegun(alloc, Status::NoMemory),
     };
-    let model = match model_of(alloc, &request, shelf) {
-        Ok(model) => model,
-        Err(fault) => return stopped(status_of(fault, FileKind::Model)),
+    let inputs = match read_all(alloc, &request, shelf) {
+        Ok(inputs) => inputs,
+        Err(fault) => return unbegun(alloc, status_of(fault)),
     };
-    let script = match script_of(alloc, &request, &model, shelf) {
-        Ok(script) => script,
-        Err(fault) => return stopped(status_of(fault, FileKind::Session)),
-    };
-    let Ok(marginal) = evaluate(alloc, &model, script.event, &script.grid) else {
-        return stopped(Status::NoMemory);
-    };
-    let Ok(text) = transcript(alloc, 1, 0, &script, &marginal) else {
-        return stopped(Status::NoMemory);
-    };
-    ended(write_whole(out, &text))
+    match run_sessions::<Brand>(alloc, inputs, request.turns(), Blank::new(1)) {
+        Ok(run) => write_run(out, run),
+        Err(NoMemory) => unbegun(alloc, Status::NoMemory),
+    }
 }

@@ -1,53 +1,69 @@
-use super::{PRINT_A, TWO_EVENTS, open_sink, run_files, shelf_with, words_of};
-use crate::status::{FileCause, FileKind, FileRef, Status, status_line};
+use super::{TWO_EVENTS, WORDS, open_sink, run_words};
+use crate::status::Status;
 use crate::top::run_alone;
+use cg_curve::CurveFault;
+use cg_files::{FileCause, FileKind, FileRef};
+use cg_io::MemShelf;
 use std::alloc::Global;
 use std::fmt::Write;
 use std::test::Fail;
 
-const fn refused(kind: FileKind, cause: FileCause) -> Status {
-    Status::Refused(FileRef { kind, number: 1 }, 0, cause)
+const OPEN: &str = "open main\n";
+
+fn refused(kind: FileKind, number: u32, line: u32, cause: FileCause) -> Status {
+    Status::Refused(FileRef { kind, number }, line, cause)
 }
 
-/// Words that ask for nothing, and words that ask in the other order.
-static WORD_LISTS: [(&[&str], Status); 12] = [
+/// Words that ask for nothing, and words that ask for something.
+static WORD_LISTS: [(&[&str], Status); 8] = [
     (
         &["alone", "--sessions", "s", "--models", "main=m"],
         Status::Done,
     ),
+    (
+        &[
+            "alone",
+            "--turns",
+            "2,1,0002",
+            "--models",
+            "a=m,b=m,A=m",
+            "--sessions",
+            "s,s",
+        ],
+        Status::Done,
+    ),
     (&[], Status::Usage),
-    (&["alone"], Status::Usage),
     (&["alone", "--models", "main=m"], Status::Usage),
     (
         &["run", "--models", "main=m", "--sessions", "s"],
         Status::Usage,
     ),
     (
-        &["alone", "--model", "main=m", "--sessions", "s"],
+        &["alone", "--models", "a=m,a=m", "--sessions", "s"],
         Status::Usage,
     ),
     (
-        &["alone", "--models", "main=m", "--models", "main=m"],
+        &[
+            "alone",
+            "--curves",
+            "a=c,A=c",
+            "--models",
+            "main=m",
+            "--sessions",
+            "s",
+        ],
         Status::Usage,
     ),
     (
-        &["alone", "--models", "m", "--sessions", "s"],
-        Status::Usage,
-    ),
-    (
-        &["alone", "--models", "=m", "--sessions", "s"],
-        Status::Usage,
-    ),
-    (
-        &["alone", "--models", "main=", "--sessions", "s"],
-        Status::Usage,
-    ),
-    (
-        &["alone", "--models", "main=m", "--sessions", "s,s"],
-        Status::Usage,
-    ),
-    (
-        &["alone", "--models", "main=m", "--sessions", "s", "--help"],
+        &[
+            "alone",
+            "--models",
+            "main=m",
+            "--sessions",
+            "s",
+            "--turns",
+            "2",
+        ],
         Status::Usage,
     ),
 ];
@@ -55,115 +71,101 @@ static WORD_LISTS: [(&[&str], Status); 12] = [
 #[test]
 fn words(rt: HostRuntime) -> Result<(), Fail> {
     for (texts, want) in &WORD_LISTS {
-        let mut shelf = shelf_with(&rt, TWO_EVENTS.as_bytes(), PRINT_A.as_bytes())?;
+        let files = [("m", TWO_EVENTS), ("s", OPEN)];
         let mut sink = open_sink(&rt)?;
-        let words = words_of(&rt, texts)?;
-        let ended = run_alone(rt.alloc(), &words, &mut shelf, &mut sink);
+        let ended = run_words(&rt, texts, files.as_slice(), &mut sink)?;
         assert_eq!(rt; ended.status, *want, "{texts:?}");
     }
     Ok(())
 }
 
-const MODEL: Status = Status::Refused(
-    FileRef {
-        kind: FileKind::Model,
-        number: 1,
-    },
-    0,
-    FileCause::Form,
-);
-
-const SESSION: Status = Status::Refused(
-    FileRef {
-        kind: FileKind::Session,
-        number: 1,
-    },
-    0,
-    FileCause::Form,
-);
-
-/// A model and a script, and the status.
-static FILES: [(&str, &str, Status); 16] = [
-    ("", PRINT_A, MODEL),
-    (TWO_EVENTS, "", SESSION),
-    ("Phase(){Date(\"A\");};", PRINT_A, MODEL),
-    ("Sequence(){Date(\"A\");Date(\"A\");};", PRINT_A, MODEL),
-    ("Sequence(){C_Date(\"A\",0);};", PRINT_A, MODEL),
-    ("Sequence(){C_Date(\"A\",2951);};", PRINT_A, MODEL),
-    ("Sequence(){C_Date(\"A\",-58052);};", PRINT_A, MODEL),
-    ("Sequence(){C_Date(\"A\",2950);};", PRINT_A, Status::Done),
-    ("Sequence(){C_Date(\"A\",-58051);};", PRINT_A, Status::Done),
+/// Curve files, and the line and the fault of each, if it has one.
+static CURVES: [(&str, Option<(u32, CurveFault)>); 6] = [
+    ("2002,2000,20\n2000,2000,20\n", None),
     (
-        "Sequence(){Date(\"ABCDEFGHIJKLMNOPQRST\");Date(\"A\");};",
-        PRINT_A,
-        Status::Done,
+        "# years\n2002,2000,20\n2000,x,20\n",
+        Some((3, CurveFault::BadRow(3))),
     ),
     (
-        "Sequence(){Date(\"ABCDEFGHIJKLMNOPQRSTU\");Date(\"A\");};",
-        PRINT_A,
-        MODEL,
+        "2002,70001,20\n2000,2000,20\n",
+        Some((1, CurveFault::OutOfRange(1))),
     ),
     (
-        TWO_EVENTS,
-        "open other\ngrid 2002 2000\nprint \"A\"\n",
-        SESSION,
+        "2000,2000,20\n2000,2000,20\n",
+        Some((2, CurveFault::Order(2))),
     ),
     (
-        TWO_EVENTS,
-        "open main\ngrid 2002 2000\nprint \"C\"\n",
-        SESSION,
+        "3001,2000,20\n2000,2000,20\n",
+        Some((2, CurveFault::Gap(2))),
     ),
-    (
-        TWO_EVENTS,
-        "open main\ngrid 2511 2000\nprint \"A\"\n",
-        Status::Done,
-    ),
-    (
-        TWO_EVENTS,
-        "open main\ngrid 2512 2000\nprint \"A\"\n",
-        SESSION,
-    ),
-    (
-        TWO_EVENTS,
-        "open main\ngrid 2000 2001\nprint \"A\"\n",
-        SESSION,
-    ),
+    ("2000,2000,20\n", Some((0, CurveFault::TooFew))),
 ];
 
 #[test]
-fn files(rt: HostRuntime) -> Result<(), Fail> {
-    for (text, script, want) in &FILES {
+fn curve_files(rt: HostRuntime) -> Result<(), Fail> {
+    let words = [
+        "alone",
+        "--curves",
+        "a=b,c=c",
+        "--models",
+        "main=m",
+        "--sessions",
+        "s",
+    ];
+    for (text, fault) in &CURVES {
+        let want = match fault {
+            Some((line, fault)) => refused(FileKind::Curve, 2, *line, FileCause::Curve(*fault)),
+            None => Status::Done,
+        };
+        let files = [
+            ("b", "2002,2000,20\n2000,2000,20\n"),
+            ("c", *text),
+            ("m", TWO_EVENTS),
+            ("s", OPEN),
+        ];
         let mut sink = open_sink(&rt)?;
-        let ended = run_files(&rt, text.as_bytes(), script.as_bytes(), &mut sink)?;
-        assert_eq!(rt; ended.status, *want, "{text} {script}");
+        let ended = run_words(&rt, words.as_slice(), files.as_slice(), &mut sink)?;
+        assert_eq!(rt; ended.status, want, "{text}");
+        assert_eq!(rt; sink.bytes().is_empty(), fault.is_some(), "{text}");
     }
     Ok(())
 }
 
-/// A Sequence of so many Dates, with the names A0, A1 and so on.
-fn dates(alloc: Global, count: usize) -> Result<String, Fail> {
-    let mut model = String::from_str(alloc, "Sequence(){")?;
-    for member in 0..count {
-        write!(model, "Date(\"A{member}\");")?;
-    }
-    model.push_str("};")?;
-    Ok(model)
-}
+/// A model and a script, and the kind of the file that isn't in its Form.
+static FORMS: [(&str, &str, Option<FileKind>); 7] = [
+    (
+        "Sequence(){Date(\"A\"};",
+        "nothing\n",
+        Some(FileKind::Model),
+    ),
+    ("Sequence(){C_Date(\"A\",0);};", OPEN, Some(FileKind::Model)),
+    (
+        "Sequence(){C_Date(\"A\",2951);};",
+        OPEN,
+        Some(FileKind::Model),
+    ),
+    ("Sequence(){C_Date(\"A\",2950);};", OPEN, None),
+    (TWO_EVENTS, "", None),
+    (TWO_EVENTS, "open main\nnothing\n", Some(FileKind::Session)),
+    (TWO_EVENTS, "grid 60001 60000\n", Some(FileKind::Session)),
+];
 
-/// A hundred members on the largest grid, and a hundred and one.
 #[test]
-fn members(rt: HostRuntime) -> Result<(), Fail> {
-    for (count, want) in [(100, Status::Done), (101, MODEL)] {
-        let model = dates(rt.alloc(), count)?;
-        let script = "open main\ngrid 2511 2000\nprint \"A0\"\n";
+fn forms(rt: HostRuntime) -> Result<(), Fail> {
+    for (model, script, kind) in &FORMS {
+        let want = match kind {
+            Some(kind) => refused(*kind, 1, 0, FileCause::Form),
+            None => Status::Done,
+        };
+        let files = [("m", *model), ("s", *script)];
         let mut sink = open_sink(&rt)?;
-        let ended = run_files(&rt, model.as_bytes(), script.as_bytes(), &mut sink)?;
-        assert_eq!(rt; ended.status, want, "{count} members");
+        let ended = run_words(&rt, WORDS.as_slice(), files.as_slice(), &mut sink)?;
+        assert_eq!(rt; ended.status, want, "{model} {script}");
     }
     Ok(())
 }
 
-/// A file at the limit is read and is in no Form, and one that is a byte longer isn't read.
+/// A file at the limit is read and says nothing, and one that is a byte longer isn't read.
 #[test]
 fn long_files(rt: HostRuntime) -> Result<(), Fail> {
     let cases = [
@@ -172,50 +174,151 @@ fn long_files(rt: HostRuntime) -> Result<(), Fail> {
     ];
     for (length, cause) in cases {
         let long = vec![in rt.alloc(); b' '; length]?;
+        let mut shelf = MemShelf::new(rt.alloc());
+        shelf.put("m", TWO_EVENTS.as_bytes())?;
+        shelf.put("s", &long)?;
         let mut sink = open_sink(&rt)?;
-        let ended = run_files(&rt, &long, PRINT_A.as_bytes(), &mut sink)?;
+        let words = super::words_of(&rt, WORDS.as_slice())?;
+        let ended = run_alone(rt.alloc(), &words, &mut shelf, &mut sink);
         assert_eq!(rt;
             ended.status,
-            refused(FileKind::Model, cause),
-            "{length} bytes"
-        );
-        let ended = run_files(&rt, TWO_EVENTS.as_bytes(), &long, &mut sink)?;
-        assert_eq!(rt;
-            ended.status,
-            refused(FileKind::Session, cause),
+            refused(FileKind::Session, 1, 0, cause),
             "{length} bytes"
         );
     }
     Ok(())
 }
 
+/// A model, a script, and the lines between the first and the last.
+static COMMANDS: [(&str, &str, &str); 9] = [
+    // A command that needs a version, before all else.
+    (
+        TWO_EVENTS,
+        "undo\nset \"Z\" Date();\nadd \"Z\" Date(\"C\");\ncommit other\nprint \"Z\"\n",
+        "refused 1 not open\nrefused 2 not open\nrefused 3 not open\nrefused 4 not open\nrefused 5 not open\n",
+    ),
+    // A print without a grid, before its name is looked for; a refused grid leaves none.
+    (
+        TWO_EVENTS,
+        "open main\nprint \"Z\"\ngrid 2512 2000\ngrid 2000 2001\nprint \"A\"\n",
+        "at v0\nrefused 2 no grid\nrefused 3 grid limit 513\nrefused 4 grid limit 0\nrefused 5 no grid\n",
+    ),
+    // Names of events: none, a group's, and a name twice.
+    (
+        "Phase(\"p\"){Date(\"A\");Date(\"A\");};",
+        "open main\ngrid 2001 2000\nprint \"A\"\nprint \"Z\"\nprint \"p\"\n",
+        "at v0\ngrid 2001 2000\nrefused 3 ambiguous 2\nrefused 4 no name\nrefused 5 wrong kind Phase\n",
+    ),
+    // Names of what is changed.
+    (
+        "Phase(\"p\"){Date(\"A\");Date(\"A\");};",
+        "open main\nset \"A\" Date();\nset \"p\" Date();\nset \"Z\" Date();\nadd \"A\" Date(\"B\");\nadd \"Z\" Date(\"B\");\n",
+        "at v0\nrefused 2 ambiguous 2\nrefused 3 wrong kind Phase\nrefused 4 no name\nrefused 5 ambiguous 2\nrefused 6 no name\n",
+    ),
+    (
+        TWO_EVENTS,
+        "open main\nadd \"A\" Date(\"B\");\n",
+        "at v0\nrefused 2 wrong kind Leaf\n",
+    ),
+    // Models and versions.
+    (
+        TWO_EVENTS,
+        "open other\ntake v1\ntake v0\nundo\ncommit other\n",
+        "refused 1 no model\nrefused 2 no version 1\nat v0\nrefused 4 no parent\nrefused 5 no model\n",
+    ),
+    // A commit by a name that was never opened has no base.
+    (
+        TWO_EVENTS,
+        "take v0\ncommit main\nopen main\nadd \"s\" Date(\"C\");\ncommit main\ntake v0\ncommit main\n",
+        "at v0\nrefused 2 moved v0\nat v0\nmade v1\ncommitted v1\nat v0\ncommitted v0\n",
+    ),
+    // No curve was given.
+    (
+        "R_Date(\"R\",2000,30);",
+        "open main\ngrid 2001 2000\nprint \"R\"\n",
+        "at v0\ngrid 2001 2000\nrefused 3 no curve\n",
+    ),
+    // Too far from a year of the grid, the oldest one first.
+    (
+        "Phase(){R_Date(\"R\",2000,30);C_Date(\"C\",-30000,5);};",
+        "open main\ngrid 2001 2000\nset \"R\" Date();\nprint \"R\"\n",
+        "at v0\ngrid 2001 2000\nmade v1\nrefused 4 far date 2001\n",
+    ),
+];
+
 #[test]
-fn status_lines(rt: HostRuntime) -> Result<(), Fail> {
-    let session = FileRef {
-        kind: FileKind::Session,
-        number: 1,
-    };
-    let cases = [
-        (Status::Done, "", 0),
-        (Status::Usage, "usage\n", 2),
-        (Status::ReadFault(session), "read fault: session 1\n", 3),
-        (
-            refused(FileKind::Model, FileCause::TooLong),
-            "model 1 line 0: too long\n",
-            4,
-        ),
-        (
-            refused(FileKind::Session, FileCause::Form),
-            "session 1 line 0: form\n",
-            4,
-        ),
-        (Status::WriteFault, "write fault\n", 5),
-        (Status::NoMemory, "out of memory\n", 6),
-    ];
-    for (status, text, code) in cases {
-        let line = status_line(rt.alloc(), &status)?;
-        assert_eq!(rt; line.as_slice(), text.as_bytes(), "{status:?}");
-        assert_eq!(rt; status.code(), code, "{status:?}");
+fn commands(rt: HostRuntime) -> Result<(), Fail> {
+    for (model, script, lines) in &COMMANDS {
+        let files = [("m", *model), ("s", *script)];
+        let mut sink = open_sink(&rt)?;
+        let ended = run_words(&rt, WORDS.as_slice(), files.as_slice(), &mut sink)?;
+        let want = format!(in rt.alloc(); "session 1\n{lines}end 1\n")?;
+        assert_eq!(rt; ended.status, Status::Done, "{script}");
+        assert_eq!(rt; sink.bytes(), want.as_bytes(), "{script}");
     }
+    Ok(())
+}
+
+/// On curves that cover less than the grid.
+#[test]
+fn uncovered_years(rt: HostRuntime) -> Result<(), Fail> {
+    let words = [
+        "alone",
+        "--curves",
+        "C.14c=c,D.14c=d",
+        "--models",
+        "main=m",
+        "--sessions",
+        "s",
+    ];
+    let files = [
+        ("c", "2002,2000,20\n2000,2000,20\n"),
+        ("d", "2010,2000,20\n2000,2000,20\n"),
+        ("m", "R_Date(\"R\",18385,1);"),
+        (
+            "s",
+            "open main\ngrid 2003 2000\nprint \"R\"\ngrid 2001 2000\nprint \"R\"\n",
+        ),
+    ];
+    let mut sink = open_sink(&rt)?;
+    let ended = run_words(&rt, words.as_slice(), files.as_slice(), &mut sink)?;
+    assert_eq!(rt; ended.status, Status::Done);
+    assert_eq!(rt;
+        sink.bytes(),
+        b"session 1\nat v0\ngrid 2003 2000\nrefused 3 uncovered 2003\ngrid 2001 2000\nrefused 5 far date 2001\nend 1\n".as_slice()
+    );
+    Ok(())
+}
+
+/// So many dates in a Sequence, with the names A0, A1 and so on.
+fn dates(alloc: Global, count: usize) -> Result<String, Fail> {
+    let mut model = String::from_str(alloc, "Sequence(\"s\"){")?;
+    for member in 0..count {
+        write!(model, "Date(\"A{member}\");")?;
+    }
+    model.push_str("};")?;
+    Ok(model)
+}
+
+/// A hundred events, and one more; a model of a hundred and one isn't accepted.
+#[test]
+fn events(rt: HostRuntime) -> Result<(), Fail> {
+    let script = "open main\nadd \"s\" Date(\"B\");\n";
+    let full = dates(rt.alloc(), 100)?;
+    let files = [("m", full.as_str()), ("s", script)];
+    let mut sink = open_sink(&rt)?;
+    let ended = run_words(&rt, WORDS.as_slice(), files.as_slice(), &mut sink)?;
+    assert_eq!(rt; ended.status, Status::Done);
+    assert_eq!(rt;
+        sink.bytes(),
+        b"session 1\nat v0\nrefused 2 limit events\nend 1\n".as_slice()
+    );
+    let past = dates(rt.alloc(), 101)?;
+    let files = [("m", past.as_str()), ("s", script)];
+    let ended = run_words(&rt, WORDS.as_slice(), files.as_slice(), &mut sink)?;
+    assert_eq!(rt;
+        ended.status,
+        refused(FileKind::Model, 1, 0, FileCause::Form)
+    );
     Ok(())
 }

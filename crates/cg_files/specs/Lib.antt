@@ -1,0 +1,4 @@
+pub mod Shelf
+pub mod Said
+pub mod Reading
+pub mod Inputs
