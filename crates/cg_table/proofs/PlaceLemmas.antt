@@ -56,19 +56,6 @@ start_code cells a le =
 pub half_start : (cells a : ℕ) → a ≤ cells → a * (2 * cells + 1 - a) / 2 ≡ start cells a
 half_start cells a le = rw (start_code cells a le) (mul-div_cancel (start cells a) (lit< tt))
 
--- a walk down column b: where the place of (c, b) is, and what takes it to the next row
-pub record InColumn (cells b c j : ℕ) : Type 0 where
-  pub place_is : j ≡ place cells c b
-  pub below : j < start cells cells
-
-pub in_column : (cells b c j : ℕ) → j + c ≡ start cells c + b → c ≤ b → b < cells → InColumn cells b c j
-in_column cells b c j e le within =
-    let here : j ≡ place cells c b = omega arith in
-    record { place_is = here; below = omega (arith, here, place_below cells c b cells le within (omega arith)) }
-
-pub next_row : (cells b c j : ℕ) → j + c ≡ start cells c + b → c ≤ b → b < cells → j + (cells - c - 1) + (c + 1) ≡ start cells (c + 1) + b
-next_row cells b c j e le within = rw add-one (omega arith)
-
 -- the number of entries, as a product
 pub start_whole : (cells n : ℕ) → 2 * n ≡ cells * (cells + 1) → n ≡ start cells cells
 start_whole cells n e = omega (arith, e, start_twice cells cells 0 (omega arith))
@@ -95,25 +82,11 @@ row_more front items f x a b le e h =
 pub count_rows : (cells : ℕ) (f : ℕ → ℕ → Enclosure) (items : List Enclosure) (a : ℕ) → a ≡ cells → items ≡ rows cells f a → 2 * length items ≡ cells * (cells + 1)
 count_rows cells f items a e h = omega (arith, ap length h, length-rows cells f a, ap (start cells) e, start_twice cells cells 0 (omega arith))
 
--- with all its rows it is the table
-pub whole_rows : (cells : ℕ) (f : ℕ → ℕ → Enclosure) (items : List Enclosure) (a : ℕ) (t : Table) → a ≡ cells → items ≡ rows cells f a → t ≡ record { cells = cells; entries = items } → t ≡ table cells f
-whole_rows cells f items a t e h is = is ∙ rw (h, e) refl
-
 pub start_next : (cells a : ℕ) → start cells (a + 1) ≡ start cells a + (cells - a)
 start_next cells a = rw add-one refl
 
 pub rows_done : (cells : ℕ) (f : ℕ → ℕ → Enclosure) (items new : List Enclosure) (a : ℕ) → new ≡ items ++ row cells f a → items ≡ rows cells f a → new ≡ rows cells f (a + 1)
 rows_done cells f items new a e h = e ∙ rw (h, rows_next cells f a) refl
-
--- twice the ticks of one more entry of a row that takes one more than the entry before it
-pub ticks_entry : (s s' s0 a b : ℕ) → a ≤ b → s' ≡ s + (b - a + 1) → 2 * s ≡ 2 * s0 + (b - a) * (b - a + 1) → 2 * s' ≡ 2 * s0 + (b + 1 - a) * (b + 1 - a + 1)
-ticks_entry s s' s0 a b le e h = let next : b + 1 - a ≡ b - a + 1 = omega arith in rw next (omega (arith, h, e))
-
-pub ticks_cut : (s s' s0 cells a b : ℕ) → a ≤ b → b < cells → s' ≡ s + (b - a + 1) → 2 * s ≡ 2 * s0 + (b - a) * (b - a + 1) → 2 * s' ≤ 2 * s0 + (cells - a) * (cells - a + 1)
-ticks_cut s s' s0 cells a b le less e h =
-    let one : b - a + 1 ≤ cells - a = omega arith in
-    let two : b - a + 2 ≤ cells - a + 1 = omega arith in
-    omega (arith, mul-le-mul one two, e, h)
 
 -- six times the ticks of one more such row
 pub ticks_row : (s s' s0 cells a : ℕ) → a < cells → 2 * s' ≤ 2 * s + (cells - a) * (cells - a + 1) → 6 * s + (cells - a) * (cells - a + 1) * (cells - a + 2) ≤ s0 →
@@ -124,10 +97,6 @@ ticks_row s s' s0 cells a less e h =
   where
     ticks_triangle : (s s' s0 m : ℕ) → 2 * s' ≤ 2 * s + (m + 1) * (m + 1 + 1) → 6 * s + (m + 1) * (m + 1 + 1) * (m + 1 + 2) ≤ s0 → 6 * s' + m * (m + 1) * (m + 2) ≤ s0
     ticks_triangle s s' s0 m e h = omega (arith, e, h)
-
--- a walk along row a
-pub in_row : (cells a b c i : ℕ) → i + a ≡ start cells a + c → a ≤ c → c ≤ b → b < cells → i < start cells cells
-in_row cells a b c i e le le' less = let here : i ≡ place cells a c = omega arith in omega (arith, here, place_below cells a c cells le (omega arith) (omega arith))
 
 -- a row ends within the table
 pub row_ends : (cells c : ℕ) → c < cells → start cells c + (cells - c) ≤ start cells cells

@@ -145,18 +145,6 @@ entry_sum-near s t a b n sum e r vs vt reach few is is' product =
     (times-within (entry s a b) (sum_of (entry t a) a n) (table_loss s) (table_reach s * 2 ^ 31) (table_loss t + 3 * n) (table_reach t * 2 ^ 31 + n)
     (entry-within s a b vs) (sum-within (entry t a) (table_loss t) (table_reach t * 2 ^ 31) a n (λ i less. entry-within t a (a + i) vt))).near)
 
-pub entries-near : (s t : Table) (a b c : ℕ) (e f r : Enclosure) → IsTable s → IsTable t → table_reach s + table_reach t < 2 ^ 20 → e ≡ entry s a c → f ≡ entry t c b → r ≡ times e f → IsExponent (2 ^ 60) r.exp
-entries-near s t a b c e f r vs vt reach is is' product =
-    rw (product, is, is') (IsExponent-more (times (entry s a c) (entry t c b)).exp (table_reach s * 2 ^ 31 + table_reach t * 2 ^ 31 + 63) (2 ^ 60) (omega arith)
-    (times-within (entry s a c) (entry t c b) (table_loss s) (table_reach s * 2 ^ 31) (table_loss t) (table_reach t * 2 ^ 31) (entry-within s a c vs) (entry-within t c b vt)).near)
-
-pub products-near : (s t : Table) (a b n : ℕ) (sum : Enclosure) → IsTable s → IsTable t → table_reach s + table_reach t < 2 ^ 20 → n ≤ s.cells → sum ≡ sum_of (λ c. times (entry s a c) (entry t c b)) a n →
-    IsExponent (2 ^ 60) sum.exp
-products-near s t a b n sum vs vt reach few is =
-    rw is (IsExponent-more (sum_of (λ c. times (entry s a c) (entry t c b)) a n).exp (table_reach s * 2 ^ 31 + table_reach t * 2 ^ 31 + 63 + n) (2 ^ 60) (omega (arith, vs.few))
-    (sum-within (λ c. times (entry s a c) (entry t c b)) (table_loss s + table_loss t + 3) (table_reach s * 2 ^ 31 + table_reach t * 2 ^ 31 + 63) a n
-    (λ i less. times-within (entry s a (a + i)) (entry t (a + i) b) (table_loss s) (table_reach s * 2 ^ 31) (table_loss t) (table_reach t * 2 ^ 31) (entry-within s a (a + i) vs) (entry-within t (a + i) b vt))).near)
-
 same_default : (xs : List Enclosure) (i : ℕ) (d d' : Enclosure) → i < length xs → get_or xs i d ≡ get_or xs i d'
 same_default [] i d d' h = absurd (omega arith)
 same_default (x ∷ xs) zero d d' h = refl

@@ -1,4 +1,4 @@
-//! How many events a node has, and how many of them are open.
+//! How many of a node's events are open.
 ghost use Rattle.std.specs.Prelude.{◌≡◌, ◌≤◌, false};
 ghost use Rattle.cg_meaning.specs.Tree.{count, count_all};
 ghost use Rattle.cg_model.specs.Node.{tree_of, trees_of};
@@ -6,33 +6,6 @@ ghost use Rattle.cg_part.specs.Spans.{has_boundary, open_events, open_in_all, op
 ghost use Rattle.cg_up.specs.Member.{is_boundary, open_member, trees_from};
 
 use cg_model::{Members, Node};
-
-/// How many events a node has, Boundaries included.
-#[cycle(events)]
-pub(crate) fn events(node: &Node) -> u32
-    requires { count (tree_of node.now) ≤ 100 }
-    ensures { result ≡ count (tree_of node.now) }
-{
-    match node {
-        Node::Leaf(_, _) | Node::Boundary(_) => 1,
-        Node::Sequence(_, members)
-        | Node::Phase(_, members)
-        | Node::After(_, members)
-        | Node::Before(_, members) => events_in(members),
-    }
-}
-
-#[cycle(events)]
-fn events_in(members: &Members) -> u32
-    requires { count_all (trees_of members.now) ≤ 100 }
-    ensures { result ≡ count_all (trees_of members.now) }
-{
-    let mut sum = 0;
-    for node in members.nodes() {
-        sum += events(node);
-    }
-    sum
-}
 
 /// Whether a node is a Boundary.
 pub(crate) fn is_boundary(node: &Node) -> bool

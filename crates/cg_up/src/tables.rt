@@ -11,7 +11,7 @@ ghost use Rattle.cg_up.specs.Pass.{IsReady, pass_of};
 
 use crate::ordered::{Ordered, ordered_with};
 use crate::pass::Pass;
-use crate::size::{events, has_boundary};
+use crate::size::has_boundary;
 use cg_model::{Members, Node};
 use cg_num::NoMemory;
 use cg_table::{Steps, Tri, after_group, before_group, beside, identity, of_row};
@@ -67,7 +67,7 @@ pub(crate) fn side_by_side<L: Ledger>(
         let group = group_of(pass, next, node, steps)?;
         let table = table_of(pass, next, node, group)?;
         others = beside(&others, &table, steps)?;
-        next += events(node);
+        next += node.events();
     }
     Ok(others)
 }
@@ -93,7 +93,7 @@ fn in_order<L: Ledger>(
         let group = group_of(pass, next, node, steps)?;
         let further = has_boundary(members, place + 1);
         ordered = ordered_with(pass, next, further, ordered, node, &group, steps)?;
-        next += events(node);
+        next += node.events();
     }
     Ok(ordered.table())
 }

@@ -43,11 +43,12 @@ in_order-loop-place-preserved g t c =
     c.in_ok-ordered.ensures.value ∙ ap (λ b. ordered_with pass c.loop-place.next b ordered node) further in
     let events = ap count_all here in
     let groups = ap groups_in here in
+    let own : c.events.result ≡ count node = omega (arith, c.events.ensures, events, c.loop-place.invariant.events, c.requires.ready.events) in
     let room = subst (λ ts. IsRoomy cells (nodes_in ts) (count_all ts) ordered) here c.loop-place.invariant.room in
     let ticks = ap (λ ts. ordered_ticks cells ordered ts) here ∙ ordered_with-ticks pass c.loop-place.next cells ordered node later in
     let later_ticks = ap (λ o. ordered_ticks cells o later) with in
     record {
-      value = rw (c.events.ensures, with)
+      value = rw (own, with)
           (ordered_with-all pass c.loop-place.next ordered node later ∙ ap (λ ts. ordered_all pass c.loop-place.next ordered ts) (sym here) ∙ c.loop-place.invariant.value);
       ticks = omega (arith, c.loop-place.invariant.ticks, c.group_of.ensures.ticks, c.ordered_with.ensures.ticks, ticks, later_ticks);
       room = subst (IsRoomy cells (nodes_in later) (count_all later)) (sym with)
@@ -83,8 +84,9 @@ side_by_side-loop-node-preserved g t c =
     let stands = beside_here c.args.pass.now c.loop-node.next node later (trees_from items place) others c.in_ok-table.table c.requires.ready here c.loop-node.invariant.events c.loop-node.invariant.room c.in_ok-table.ensures in
     let ticks = ap (λ ts. side_by_side_ticks cells ts) here in
     let beside_ticks = c.beside.ensures.ticks in
+    let own : c.events-next.result ≡ count node = omega (arith, c.events-next.ensures, ap count_all here, c.loop-node.invariant.events, c.requires.ready.events) in
     record {
-      value = rw (c.events-next.ensures, with) (ap (λ ts. side_by_side pass c.loop-node.next others ts) (sym here) ∙ c.loop-node.invariant.value);
+      value = rw (own, with) (ap (λ ts. side_by_side pass c.loop-node.next others ts) (sym here) ∙ c.loop-node.invariant.value);
       ticks = omega (arith, c.loop-node.invariant.ticks, c.group_of.ensures.ticks, rw c.loop-node.invariant.room.each at beside_ticks, ticks);
       room = subst (HasRoom cells (nodes_in later)) (sym c.in_ok-others-2.ensures.value) stands.room;
       events = omega (arith, c.loop-node.invariant.events, c.events-next.ensures, ap count_all here);
