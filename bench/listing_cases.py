@@ -1,5 +1,5 @@
 #!/usr/bin/env python3
-"""Prints the cases of the tests of cg_up, by listing every dating of a small model.
+"""Prints the cases of the tests of cg_up, and of the edits that cg_run tests, by listing every dating of a small model.
 
 It checks the expected values of those tests and is no part of the gate. It shares no code with the crate and uses no
 tables: each list of cells is seen to keep the order rule and the exact years, and weighs the product over its events of
@@ -111,6 +111,9 @@ CASES = [
     ("groups without members", [SEQUENCE(DATE, PHASE(), AFTER(), BEFORE(), SEQUENCE(), DATE), PHASE()], THREE, [0, 1]),
     ("nothing in a span", [SEQUENCE(BOUNDARY, PHASE(), BOUNDARY, DATE)], THREE, [0, 1, 2]),
     ("an exact year in a span", [SEQUENCE(BOUNDARY, exact(2001), DATE, BOUNDARY)], THREE, [0, 2, 3]),
+    ("a Boundary in front, and a Phase beside", [SEQUENCE(BOUNDARY, DATE, DATE), PHASE(DATE)], THREE, [1]),
+    ("a Boundary behind both dates", [SEQUENCE(BOUNDARY, DATE, DATE, BOUNDARY), PHASE(DATE)], THREE, [1]),
+    ("the Boundary moved between them", [SEQUENCE(BOUNDARY, DATE, BOUNDARY, DATE), PHASE(DATE)], THREE, [1]),
     ("exact years in the wrong order", [SEQUENCE(exact(2000), exact(2001)), DATE], TWO, [2]),
 ]
 

@@ -108,6 +108,60 @@ fn one_head_two_seats(rt: HostRuntime) -> Result<(), Fail> {
     Ok(())
 }
 
+#[derive(Clone, Copy, Debug)]
+enum Move {
+    DropA,
+    InsertAFirst,
+    RenameB,
+    BoundaryFirst,
+    BoundaryAtTop,
+}
+
+fn moving(alloc: Global, which: Move) -> Result<Edit, Fail>
+    ensures { IfOk result (λ edit. IsInOrder (edit_in edit)) }
+{
+    let a = Name::new(alloc, "A")?;
+    let b = Name::new(alloc, "B")?;
+    match which {
+        Move::DropA => Ok(Edit::Drop(a)),
+        Move::InsertAFirst => Ok(Edit::InsertBefore(b, Node::Leaf(a, Dating::Free))),
+        Move::RenameB => Ok(Edit::Rename(b, a)),
+        Move::BoundaryFirst => Ok(Edit::InsertBefore(b, Node::Boundary(a))),
+        Move::BoundaryAtTop => {
+            let sequence = Name::new(alloc, "s")?;
+            Ok(Edit::InsertBefore(sequence, Node::Boundary(a)))
+        }
+    }
+}
+
+fn moved(alloc: Global, book: &mut Book, version: u32, which: Move) -> Result<Reply, Fail> {
+    if version >= book.count() {
+        return Err("no such version".into());
+    }
+    Ok(book.apply(alloc, 1, Event::Change(version, moving(alloc, which)?)))
+}
+
+/// Version 1 is without A, so a date or a Boundary of the name may come before B, or B may have the name.
+#[test]
+fn moves(rt: HostRuntime) -> Result<(), Fail> {
+    let cases = [
+        (Move::DropA, 0, Some((1, 1))),
+        (Move::InsertAFirst, 1, Some((2, 2))),
+        (Move::RenameB, 1, Some((3, 1))),
+        (Move::BoundaryFirst, 1, Some((4, 2))),
+        (Move::BoundaryAtTop, 1, None),
+        (Move::DropA, 1, None),
+        (Move::InsertAFirst, 3, None),
+        (Move::DropA, 4, Some((5, 1))),
+    ];
+    let mut book = one_model(rt.alloc())?;
+    for (which, version, want) in cases {
+        let reply = moved(rt.alloc(), &mut book, version, which)?;
+        assert_eq!(rt; version_of(&reply), want, "{which:?} of {version}");
+    }
+    Ok(())
+}
+
 #[test]
 fn refusals(rt: HostRuntime) -> Result<(), Fail> {
     let alloc = rt.alloc();

@@ -7,7 +7,7 @@ use Rattle.cg_model.specs.Node.{tree_of}
 use Rattle.cg_sharing.specs.Edit as meaning
 use Rattle.cg_sharing.specs.Edit.{a_leaf, a_boundary, a_group, result_of}
 use Rattle.cg_edit.specs.declared.edit.Edit.{Edit}
-use Rattle.cg_edit.specs.declared.edit.Edit.TheVariants.{Set, Add}
+use Rattle.cg_edit.specs.declared.edit.Edit.TheVariants.{Set, Add, InsertBefore, Drop, Rename}
 use Rattle.cg_edit.specs.declared.fault.Kind.{Kind}
 use Rattle.cg_edit.specs.declared.fault.Kind.TheVariants.{Leaf, Boundary, Sequence, Phase, After, Before}
 use Rattle.cg_edit.specs.declared.fault.EditFault.{EditFault}
@@ -16,6 +16,9 @@ use Rattle.cg_edit.specs.declared.fault.EditFault.TheVariants.{NoName, Ambiguous
 abbrev pub edit_in : Edit → meaning.Edit
 edit_in (Set name dating) = meaning.Set name (dating_of dating)
 edit_in (Add name node) = meaning.Add name (tree_of node)
+edit_in (InsertBefore name node) = meaning.InsertBefore name (tree_of node)
+edit_in (Drop name) = meaning.Drop name
+edit_in (Rename name new) = meaning.Rename name new
 
 abbrev pub kind_in : Kind → meaning.NodeKind
 kind_in Leaf = a_leaf

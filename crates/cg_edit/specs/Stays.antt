@@ -1,8 +1,8 @@
--- The text of statements, and that a change leaves all of it but one node. chron's own.
+-- The text of statements, and that a change leaves all of it but the part of one node. chron's own.
 use Rattle.std.specs.Prelude.{◌≡◌, List, [], ◌∷◌, ◌++◌, Ok}
-use Rattle.cg_meaning.specs.Tree.{Name, Dating, Kind, Tree, Leaf, Boundary, Group, Trees, none, more}
+use Rattle.cg_meaning.specs.Tree.{Name, Dating, Kind, Tree, Leaf, Boundary, Group, Trees, none, more, name_of}
 use Rattle.cg_model.specs.Node.{trees_with}
-use Rattle.cg_sharing.specs.Edit.{Edit, Set, Add, result_of}
+use Rattle.cg_sharing.specs.Edit.{Edit, Set, Add, InsertBefore, Drop, Rename, result_of}
 
 -- a mark of a text: an event with its dating, a Boundary, or where a group opens or closes
 pub data Mark : Type 0 where
@@ -22,19 +22,32 @@ abbrev mutual
   text_of_all none = []
   text_of_all (more t ts) = text_of t ++ text_of_all ts
 
--- The text is as before, but that the text of the one node stands in place of that of the other.
-pub record IsOnlyChange (old new : Tree) (before after : Trees) : Type 0 where
+-- A text that is as before, but that the new part stands in place of the old one.
+pub record IsOnlyChange (old new before after : List Mark) : Type 0 where
   pub front : List Mark
   pub back : List Mark
-  pub was : text_of_all before ≡ front ++ text_of old ++ back
-  pub is : text_of_all after ≡ front ++ text_of new ++ back
+  pub was : before ≡ front ++ old ++ back
+  pub is : after ≡ front ++ new ++ back
 
--- a change replaces one leaf of its name by one with the dating, or one group of its name by one with the node behind
--- its members
+-- the node under another name, with the same dating or the same members
+abbrev pub with_name : Name → Tree → Tree
+with_name new (Leaf name dating) = Leaf new dating
+with_name new (Boundary name) = Boundary new
+with_name new (Group kind name ts) = Group kind new ts
+
+-- A change replaces one leaf of its name by one with the dating, or one group of its name by one with the node behind
+-- its members; or before one node of its name the other comes, or one node of its name goes, or has the new one.
 abbrev pub ElseStays : Edit → Trees → Trees → Type 0
-ElseStays (Set name dating) before after = (old : Dating) × IsOnlyChange (Leaf name old) (Leaf name dating) before after
+ElseStays (Set name dating) before after =
+    (old : Dating) × IsOnlyChange (text_of (Leaf name old)) (text_of (Leaf name dating)) (text_of_all before) (text_of_all after)
 ElseStays (Add name node) before after =
-    (group : Kind × Trees) × IsOnlyChange (Group group.0 name group.1) (Group group.0 name (trees_with group.1 node)) before after
+    (group : Kind × Trees) × IsOnlyChange (text_of (Group group.0 name group.1)) (text_of (Group group.0 name (trees_with group.1 node))) (text_of_all before) (text_of_all after)
+ElseStays (InsertBefore name node) before after =
+    (t : Tree) × (name_of t ≡ name) × IsOnlyChange (text_of t) (text_of node ++ text_of t) (text_of_all before) (text_of_all after)
+ElseStays (Drop name) before after =
+    (t : Tree) × (name_of t ≡ name) × IsOnlyChange (text_of t) [] (text_of_all before) (text_of_all after)
+ElseStays (Rename name new) before after =
+    (t : Tree) × (name_of t ≡ name) × IsOnlyChange (text_of t) (text_of (with_name new t)) (text_of_all before) (text_of_all after)
 
 -- whenever a change is accepted all else stays
 abbrev pub AllElseStays : Type 0

@@ -7,6 +7,7 @@ ghost use Rattle.cg_edit.specs.Plain.{edit_in, IsOutcome};
 use crate::copy::{dated_all, extended_all};
 use crate::edit::Edit;
 use crate::fault::EditFault;
+use crate::moved::{preceded_all, renamed_all, without_all};
 use cg_model::{Found, Members, ModelTree, Name};
 use cg_num::NoMemory;
 use std::alloc::Global;
@@ -23,11 +24,12 @@ pub fn apply(alloc: Global, model: &ModelTree, edit: &Edit) -> Result<ModelTree,
         Found::Many(count) => return Err(EditFault::Ambiguous(count)),
         Found::One(place) => place,
     };
-    if let Some(kind) = edit.wrong_kind(model.node(place)) {
+    let before = model.top();
+    if let Some(kind) = edit.wrong_kind(model.node(place), before) {
         return Err(EditFault::WrongKind(kind));
     }
     let curve = curve_of(alloc, model)?;
-    let top = edited(alloc, model.top(), edit)?;
+    let top = edited(alloc, before, edit)?;
     match ModelTree::new(curve, top) {
         Ok(after) => Ok(after),
         Err(limit) => Err(EditFault::Limit(limit)),
@@ -40,6 +42,9 @@ fn edited(alloc: Global, top: &Members, edit: &Edit) -> Result<Members, NoMemory
     match edit {
         Edit::Set(name, dating) => dated_all(alloc, top, name, *dating),
         Edit::Add(name, node) => extended_all(alloc, top, name, node),
+        Edit::InsertBefore(name, node) => preceded_all(alloc, top, name, node),
+        Edit::Drop(name) => without_all(alloc, top, name),
+        Edit::Rename(name, new) => renamed_all(alloc, top, name, new),
     }
 }
 

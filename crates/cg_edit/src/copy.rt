@@ -5,6 +5,7 @@ ghost use Rattle.cg_model.specs.Dating.{dating_of};
 ghost use Rattle.cg_model.specs.Node.{tree_of, trees_of, trees_with};
 ghost use Rattle.cg_sharing.specs.Edit.{dated, dated_all, extended, extended_all};
 
+use crate::named::has_name;
 use cg_model::{Dating, Members, Name, Node};
 use cg_num::NoMemory;
 use std::alloc::Global;
@@ -63,7 +64,7 @@ pub(crate) fn dated_all(
 fn extended(alloc: Global, node: &Node, name: &Name, added: &Node) -> Result<Node, NoMemory>
     ensures { IfOk result (λ after. tree_of after ≡ extended name.now (tree_of added.now) (tree_of node.now)) }
 {
-    if node.name().text() == name.text() {
+    if has_name(node, name) {
         return grown(alloc, node, added);
     }
     match node {

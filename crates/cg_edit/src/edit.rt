@@ -1,10 +1,11 @@
 ghost use Rattle.std.specs.Prelude.{◌≡◌, IfOk, option_map};
-ghost use Rattle.cg_model.specs.Node.{tree_of};
+ghost use Rattle.cg_model.specs.Node.{tree_of, trees_of};
 ghost use Rattle.cg_sharing.specs.Edit.{target_of, wrong_kind};
 
 use crate::fault::Kind;
-use crate::misplaced::misplaced;
-use cg_model::{Dating, Name, Node};
+use crate::misplaced::{misplaced, misplaced_under};
+use crate::parent::parent_in;
+use cg_model::{Dating, Members, Name, Node};
 use cg_num::NoMemory;
 use std::alloc::Global;
 
@@ -15,6 +16,12 @@ pub enum Edit {
     Set(Name, Dating),
     /// The named group gets this node behind its members.
     Add(Name, Node),
+    /// This node comes just before the named one.
+    InsertBefore(Name, Node),
+    /// The named node goes, with all that it holds.
+    Drop(Name),
+    /// The first name gives way to the second.
+    Rename(Name, Name),
 }
 
 impl Edit {
@@ -27,6 +34,11 @@ impl Edit {
         match self {
             Edit::Set(name, dating) => Ok(Edit::Set(name.copy(alloc)?, *dating)),
             Edit::Add(name, node) => Ok(Edit::Add(name.copy(alloc)?, node.copy(alloc)?)),
+            Edit::InsertBefore(name, node) => {
+                Ok(Edit::InsertBefore(name.copy(alloc)?, node.copy(alloc)?))
+            }
+            Edit::Drop(name) => Ok(Edit::Drop(name.copy(alloc)?)),
+            Edit::Rename(name, new) => Ok(Edit::Rename(name.copy(alloc)?, new.copy(alloc)?)),
         }
     }
 
@@ -35,20 +47,28 @@ impl Edit {
         ensures { result.now ≡ target_of (edit_in self.now) }
     {
         match self {
-            Edit::Set(name, _) | Edit::Add(name, _) => name,
+            Edit::Set(name, _)
+            | Edit::Add(name, _)
+            | Edit::InsertBefore(name, _)
+            | Edit::Drop(name)
+            | Edit::Rename(name, _) => name,
         }
     }
 
-    // the kind for which the change of this node is refused
-    pub(crate) fn wrong_kind(&self, node: &Node) -> Option<Kind>
-        ensures { option_map kind_in result ≡ wrong_kind (edit_in self.now) (tree_of node.now) }
+    // the kind for which the change of this node of the statements is refused
+    pub(crate) fn wrong_kind(&self, node: &Node, top: &Members) -> Option<Kind>
+        ensures { option_map kind_in result ≡ wrong_kind (edit_in self.now) (tree_of node.now) (trees_of top.now) }
     {
         match (self, node) {
-            (Edit::Set(_, _), Node::Leaf(_, _)) => None,
+            (Edit::Set(_, _), Node::Leaf(_, _)) | (Edit::Drop(_) | Edit::Rename(_, _), _) => None,
             (Edit::Set(_, _), _) | (Edit::Add(_, _), Node::Leaf(_, _) | Node::Boundary(_)) => {
                 Some(Kind::of(node))
             }
             (Edit::Add(_, added), _) => misplaced(added, Kind::of(node)),
+            // the root is as a Phase
+            (Edit::InsertBefore(name, added), _) => {
+                misplaced_under(parent_in(name, Kind::Phase, top), added)
+            }
         }
     }
 }

@@ -7,10 +7,13 @@ mod edit;
 mod fault;
 mod law;
 mod misplaced;
+mod moved;
+mod named;
+mod parent;
 #[cfg(test)]
 mod tests;
 
 pub use change::apply;
 pub use edit::Edit;
 pub use fault::{EditFault, Kind};
-pub use law::all_else_stays;
+pub use law::{all_else_stays, changed_models_are_models};

@@ -1,7 +1,7 @@
 //! Where a Boundary would stand out of place.
 ghost use Rattle.std.specs.Prelude.{◌≡◌, option_map};
 ghost use Rattle.cg_model.specs.Node.{tree_of, trees_of};
-ghost use Rattle.cg_sharing.specs.Edit.{a_group, misplaced_in, misplaced_in_all};
+ghost use Rattle.cg_sharing.specs.Edit.{a_group, misplaced_in, misplaced_in_all, misplaced_under};
 ghost use Rattle.cg_edit.specs.Plain.{kind_in};
 
 use crate::fault::Kind;
@@ -41,4 +41,15 @@ fn misplaced_among(members: &Members, parent: Kind) -> Option<Kind>
         }
     }
     None
+}
+
+// the same, where there is such a group
+pub(crate) fn misplaced_under(parent: Option<Kind>, node: &Node) -> Option<Kind>
+    ensures { (found : _) → option_map kind_in parent ≡ option_map (λ k. a_group k) found
+        → option_map kind_in result ≡ misplaced_under found (tree_of node.now) }
+{
+    match parent {
+        None => None,
+        Some(kind) => misplaced(node, kind),
+    }
 }

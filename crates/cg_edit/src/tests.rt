@@ -357,6 +357,7 @@ fn limits(rt: HostRuntime) -> Result<(), Fail> {
 #[test]
 fn parts(rt: HostRuntime) -> Result<(), Fail> {
     all_else_stays();
+    changed_models_are_models();
     let edit = set(rt.alloc(), "A", Said::Exact)?;
     assert_eq!(rt; edit.target().text(), "A");
     let model = site(rt.alloc())?;

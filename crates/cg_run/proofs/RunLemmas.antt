@@ -8,8 +8,11 @@ use Rattle.cg_sharing.specs.Journal.{IsLegal}
 use Rattle.cg_session.specs.Standing.{marginals_on}
 use Rattle.cg_turns.specs.Run.{written_in, HasCourses, IsInterleaving}
 use Rattle.cg_turns.specs.declared.run.Run.{Run}
+use Rattle.cg_recipe.specs.Laws.{RecipesAreRight}
+use Rattle.cg_prints.specs.Laws.{PrintsAreFounded}
 use Rattle.cg_words.specs.Words.{Request}
 use Rattle.cg_files.specs.Inputs.{Inputs}
+use Rattle.cg_run.proofs.InputsLemmas.{each_right}
 use Rattle.cg_run.specs.Run.{AreAccepted, HaveRun, AreOfTurns, TakesAll, IsDone, IsCutOff, IsStopped, IsJournal}
 
 -- the turns that the sessions took are those of the request
@@ -20,7 +23,8 @@ turns_same inputs taken turns same run whole = λ none. subst (λ ts. IsInterlea
 
 module _ (words : List (List ℕ)) (told : Option Files) (request : Request) (inputs : Inputs) (run : Run) (accepts : AreAccepted words told request inputs)
     (legal : IsLegal (start_of inputs.models) run.journal) (courses : HasCourses (marginals_on inputs.curves) inputs.models inputs.scripts run)
-    (whole : run.stopped ≡ false → IsInterleaving (marginals_on inputs.curves) inputs.models inputs.scripts request.turns run) where
+    (whole : run.stopped ≡ false → IsInterleaving (marginals_on inputs.curves) inputs.models inputs.scripts request.turns run)
+    (recipes : RecipesAreRight) (prints : PrintsAreFounded) where
   abbrev ran_so : (stopped : Bool) → run.stopped ≡ stopped → HaveRun words told run.journal (concat (written_in run)) stopped
   ran_so stopped is = record {
     request = request;
@@ -31,6 +35,7 @@ module _ (words : List (List ℕ)) (told : Option Files) (request : Request) (in
     over = courses.over;
     some = sym is ∙ courses.stopped;
     written = ap concat courses.written;
+    right = each_right told request inputs run.journal recipes prints accepts.files legal;
   }
 
   turns_of : run.stopped ≡ false → AreOfTurns request inputs run.journal (concat (written_in run))

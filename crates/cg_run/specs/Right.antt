@@ -1,25 +1,31 @@
 -- What a printed interval is worth.
-use Rattle.std.specs.Prelude.{◌≡◌, ℕ, ◌<◌, IfSome}
-use Rattle.cg_meaning.specs.Tree.{Chronology, root_of, count}
-use Rattle.cg_meaning.specs.Scene.{Grid, Scene, scene_of}
-use Rattle.cg_meaning.specs.Cover.{AreCovered}
+use Rattle.std.specs.Prelude.{◌≡◌, ℕ, ◌+◌, List, [], ◌∷◌, ◌++◌, take, All, IfSome}
+use Rattle.cg_meaning.specs.Tree.{root_of}
+use Rattle.cg_meaning.specs.Scene.{scene_of}
 use Rattle.cg_meaning.specs.Posterior.{IsMarginal}
-use Rattle.cg_model.specs.Grid.{IsGrid}
-use Rattle.cg_model.specs.Limits.{IsModel}
 use Rattle.cg_marginal.specs.Pairs.{ArePairs}
 use Rattle.cg_recipe.specs.Recipe.{recipe}
+use Rattle.cg_sharing.specs.Command.{Line}
+use Rattle.cg_sharing.specs.Versions.{State}
+use Rattle.cg_sharing.specs.Journal.{Entry}
 use Rattle.cg_sharing.specs.Course.{Marginals}
+use Rattle.cg_prints.specs.Prints.{Print, marginal_of, prints_in}
 
 -- The marginal that is printed of an event holds for every admitted weighting, is none exactly where no dating is
 -- allowed, is the value of the recipe, and has pairs at most 3 wide.
-pub record IsRight (marginals : Marginals) (chronology : Chronology) (scene : Scene) (event : ℕ) : Type 0 where
-  pub holds : IsMarginal (root_of chronology) scene event (marginals.of (root_of chronology) scene event)
-  pub recipe : marginals.of (root_of chronology) scene event ≡ recipe (root_of chronology) scene event
-  pub narrow : IfSome (marginals.of (root_of chronology) scene event) ArePairs
+pub record IsRight (marginals : Marginals) (print : Print) : Type 0 where
+  pub holds : IsMarginal (root_of print.chronology) (scene_of print.grid marginals.curve) print.event (marginal_of marginals print)
+  pub recipe : marginal_of marginals print ≡ recipe (root_of print.chronology) (scene_of print.grid marginals.curve) print.event
+  pub narrow : IfSome (marginal_of marginals print) ArePairs
 
--- so is each: of every model within its limits, on every grid on which the curve weighs all its datings
-abbrev pub AreRight : Marginals → Type 0
-AreRight marginals =
-    (chronology : Chronology) (grid : Grid) (event : ℕ) → IsModel chronology.top → IsGrid grid.oldest grid.cells →
-    AreCovered (root_of chronology) (scene_of grid marginals.curve) → event < count (root_of chronology) →
-    IsRight marginals chronology (scene_of grid marginals.curve) event
+-- Each marginal is that a session prints: on the course of its whole script, and on one that want of memory stops earlier.
+pub record AreRight (marginals : Marginals) (session : ℕ) (start : State) (script : List Line) (entries : List Entry) : Type 0 where
+  pub whole : All (λ print. IsRight marginals print) (prints_in marginals session start script entries)
+  pub stopped : (commands : ℕ) (earlier later : List Entry) → entries ≡ earlier ++ later →
+      All (λ print. IsRight marginals print) (prints_in marginals session start (take commands script) earlier)
+
+-- so is each that the sessions from this number on print
+abbrev pub EachIsRight : Marginals → ℕ → State → List (List Line) → List Entry → Type 0
+EachIsRight marginals session start [] entries = Unit {0}
+EachIsRight marginals session start (script ∷ scripts) entries =
+    AreRight marginals session start script entries × EachIsRight marginals (session + 1) start scripts entries

@@ -15,6 +15,7 @@ use Rattle.cg_files.specs.Reading as files
 use Rattle.cg_files.specs.Inputs.{Inputs, files_of, AreInputs}
 use Rattle.cg_files.specs.declared.file.FileFault.{FileFault}
 use Rattle.cg_files.specs.declared.file.FileFault.TheVariants as fault
+use Rattle.cg_run.specs.Right.{EachIsRight}
 use Rattle.cg_run.specs.declared.status.Status.{Status}
 use Rattle.cg_run.specs.declared.status.Status.TheVariants.{Done, Usage, ReadFault, Refused, WriteFault, NoMemory}
 
@@ -34,7 +35,8 @@ abbrev pub output_of : List Place → List ℕ
 output_of places = concat (transcripts_of 1 places)
 
 -- The files are accepted, and their sessions ran. The journal is legal, the entries of each session are a course of its
--- script that is over, and the output is what these courses write; it is told whether want of memory stopped one.
+-- script that is over, and the output is what these courses write, each marginal in it being right; it is told whether
+-- want of memory stopped one.
 pub record HaveRun (words : List (List ℕ)) (told : Option Files) (journal : List Entry) (output : List ℕ) (stopped : Bool) : Type 0 where
   pub request : Request
   pub inputs : Inputs
@@ -44,6 +46,7 @@ pub record HaveRun (words : List (List ℕ)) (told : Option Files) (journal : Li
   pub over : AreOver (marginals_on inputs.curves) 1 (start_of inputs.models) inputs.scripts journal places
   pub some : stopped ≡ list_any (λ place. place.stopped) places
   pub written : output ≡ output_of places
+  pub right : EachIsRight (marginals_on inputs.curves) 1 (start_of inputs.models) inputs.scripts journal
 
 -- what the sessions come to in the turns of the request
 abbrev pub world_of : Request → Inputs → World

@@ -2,14 +2,13 @@
 
 ghost use Rattle.std.specs.Prelude.{◌≡◌, ◌⊎◌, ◌<◌, ◌≤◌, [], false, length, map, string_bytes, All, IfOk, Some};
 ghost use Rattle.cg_io.specs.Causes.{Rose};
+ghost use Rattle.cg_sharing.specs.Course.{AreFit};
 ghost use Rattle.cg_sharing.specs.Versions.{start_of};
 ghost use Rattle.cg_sharing.specs.Journal.{IsLegal};
 ghost use Rattle.cg_session.specs.Standing.{marginals_on};
-ghost use Rattle.cg_session.specs.Session.{AreReady};
 ghost use Rattle.cg_turns.specs.Run.{HasCourses, IsInterleaving};
 ghost use Rattle.cg_words.specs.Words.{AreNoWords};
 ghost use Rattle.cg_run.specs.Run.{AreAccepted, ReadsAll, IsDone, IsCutOff, IsStopped, IsJournal, EndsAt, Causes, BeginsNone};
-ghost use Rattle.cg_run.specs.Right.{AreRight};
 ghost use Rattle.cg_run.specs.Status.{status_of};
 
 use crate::output::write_run;
@@ -18,6 +17,7 @@ use cg_book::Journal;
 use cg_files::{FileFault, Inputs, read_all};
 use cg_io::{Shelf, Sink};
 use cg_num::NoMemory;
+use cg_prints::prints_are_founded;
 use cg_recipe::recipes_are_right;
 use cg_table::Steps;
 use cg_turns::{Run, run_in_turns};
@@ -56,7 +56,7 @@ fn run_sessions<L: Ledger>(
     turns: &[u32],
     blank: Blank,
 ) -> Result<Run, NoMemory>
-    requires ready { All AreReady inputs.scripts.items }
+    requires ready { All AreFit inputs.scripts.items }
     requires few { length inputs.scripts.items ≤ 8 }
     requires name { blank.name ≡ L.name }
     requires parts { blank.parts ≡ L.parts }
@@ -82,7 +82,8 @@ pub fn run_alone<H: Shelf, K: Sink>(
     shelf: &mut H,
     out: &mut K,
 ) -> Ended
-    // Each session did all of its script, and its transcript was taken, and no more.
+    // Each session did all of its script, and its transcript was taken, and no more. Each marginal that is printed holds,
+    // of that session's own version at that command, under every admitted weighting.
     ensures done { result.status ≡ Status.Done
         → IsDone (map string_bytes words.now) (H.told shelf.old) (K.taken out.old) (K.taken out.new) result.journal result.taken }
 
@@ -122,12 +123,9 @@ pub fn run_alone<H: Shelf, K: Sink>(
 
     // At every status.
     ensures journal { (result.journal ≡ []) ⊎ IsJournal (map string_bytes words.now) (H.told shelf.old) result.journal }
-
-    // What transcripts print of an event holds under every admitted weighting.
-    ensures pairs { (request : _) (inputs : _) → AreAccepted (map string_bytes words.now) (H.told shelf.old) request inputs
-        → AreRight (marginals_on inputs.curves) }
 {
     recipes_are_right();
+    prints_are_founded();
     let request = match request_of(alloc, words) {
         Ok(Some(request)) => request,
         Ok(None) => return unbegun(alloc, Status::Usage),

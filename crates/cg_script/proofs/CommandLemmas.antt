@@ -1,12 +1,12 @@
 -- Commands: each is read as it stands, at the end of its line.
-use Rattle.std.proofs.Common.{◌≡◌, ℕ, List, [], ◌∷◌, ◌++◌, codes, Option, Some, None, ℤ, refl, sym, ap, ◌∙◌, subst₂, lit≤, append_assoc}
+use Rattle.std.proofs.Common.{◌≡◌, ℕ, List, [], ◌∷◌, ◌++◌, codes, Option, Some, None, ℤ, refl, sym, ap, ◌∙◌, subst, subst₂, lit≤, append_assoc}
 use Rattle.std.specs.List.{prefix_len}
 use Rattle.std.specs.Char.{is_ascii_digit}
 use Rattle.std.specs.Fmt.{signed_decimal}
 use Rattle.cg_meaning.specs.Tree.{Name, Dating, Tree}
-use Rattle.cg_form.specs.Text.{quoted}
+use Rattle.cg_form.specs.Text.{IsText, quoted}
 use Rattle.cg_form.specs.Pieces.{after, text_at, number_at}
-use Rattle.cg_form.specs.Model.{nameless, text_of}
+use Rattle.cg_form.specs.Model.{nameless, text_of, IsAlone}
 use Rattle.cg_form.specs.Values.{nameless_at}
 use Rattle.cg_form.specs.Reading.{alone_at}
 use Rattle.cg_form.proofs.StepLemmas.{passes, parts, none-some, branch}
@@ -14,11 +14,11 @@ use Rattle.cg_form.proofs.PieceLemmas.{after-is, text-append, text-is}
 use Rattle.cg_form.proofs.NumberLemmas.{number-append, number-is}
 use Rattle.cg_form.proofs.ValueLemmas.{nameless-append, nameless-is}
 use Rattle.cg_form.proofs.ModelLemmas.{alone-append, alone-is}
-use Rattle.cg_sharing.specs.Edit.{Set, Add}
+use Rattle.cg_sharing.specs.Edit.{Set, Add, InsertBefore, Drop, Rename}
 use Rattle.cg_sharing.specs.Command.{Command, Grid, Open, Take, Undo, Change, Commit, Print}
 use Rattle.cg_script.specs.Form.{is_name_byte, IsCommand, text_of_command}
-use Rattle.cg_script.specs.Reading.{name_at, year_at, grid_at, open_at, take_at, undo_at, set_at, add_at, commit_at, print_at, change_at, other_at, command_at}
-use Rattle.cg_script.proofs.NameLemmas.{name-append, name-is}
+use Rattle.cg_script.specs.Reading.{name_at, title_at, node_at, year_at, grid_at, open_at, take_at, undo_at, set_at, add_at, insert_at, drop_at, rename_at, commit_at, print_at, change_at, other_at, command_at}
+use Rattle.cg_script.proofs.NameLemmas.{name-append, name-is, title-append, title-is}
 use Rattle.cg_script.proofs.YearLemmas.{year-append, year-is}
 
 -- What stands behind a command: nothing, or the end of its line.
@@ -53,12 +53,27 @@ set-append event dating rest h =
     let said = nameless-append dating rest h.1 in
     rw (named, said) refl
 
+-- the name of a node, and a statement
+node-append : (name : Name) (node : Tree) (rest : List ℕ) → IsText name → IsAlone node → node_at (quoted name ++ (codes " " ++ (text_of node ++ rest))) ≡ Some ((name, node), rest)
+node-append name node rest h k =
+    let named = text-append name (codes " " ++ (text_of node ++ rest)) h in
+    let said = alone-append node rest k in
+    rw (named, said) refl
+
 -- a new member
 add-append : (group : Name) (node : Tree) (rest : List ℕ) → IsCommand (Change (Add group node)) → add_at (quoted group ++ (codes " " ++ (text_of node ++ rest))) ≡ Some (Change (Add group node), rest)
-add-append group node rest h =
-    let named = text-append group (codes " " ++ (text_of node ++ rest)) h.0 in
-    let said = alone-append node rest h.1 in
-    rw (named, said) refl
+add-append group node rest h = rw (node-append group node rest h.0 h.1) refl
+
+-- a new node before another
+insert-append : (name : Name) (node : Tree) (rest : List ℕ) → IsCommand (Change (InsertBefore name node)) → insert_at (quoted name ++ (codes " " ++ (text_of node ++ rest))) ≡ Some (Change (InsertBefore name node), rest)
+insert-append name node rest h = rw (node-append name node rest h.0 h.1) refl
+
+-- a new name
+rename-append : (name new : Name) (rest : List ℕ) → IsCommand (Change (Rename name new)) → rename_at (quoted name ++ (codes " " ++ (quoted new ++ rest))) ≡ Some (Change (Rename name new), rest)
+rename-append name new rest h =
+    let named = text-append name (codes " " ++ (quoted new ++ rest)) h.0 in
+    let titled = title-append new rest h.1 in
+    rw (named, titled) refl
 
 -- a command is read as it stands
 pub command-append : (command : Command) (rest : List ℕ) → IsCommand command → IsEndAt rest → command_at (text_of_command command ++ rest) ≡ Some (command, rest)
@@ -72,6 +87,11 @@ command-append (Change (Set event dating)) rest h e =
     ap command_at (parted (codes "set ") (quoted event) (codes " ") (nameless dating) rest) ∙ set-append event dating rest h
 command-append (Change (Add group node)) rest h e =
     ap command_at (parted (codes "add ") (quoted group) (codes " ") (text_of node) rest) ∙ add-append group node rest h
+command-append (Change (InsertBefore name node)) rest h e =
+    ap command_at (parted (codes "insert ") (quoted name) (codes " ") (text_of node) rest) ∙ insert-append name node rest h
+command-append (Change (Drop name)) rest h e = rw (text-append name rest h) refl
+command-append (Change (Rename name new)) rest h e =
+    ap command_at (parted (codes "rename ") (quoted name) (codes " ") (quoted new) rest) ∙ rename-append name new rest h
 command-append (Commit name) rest h e = rw (name-append name rest h (no-name rest e)) refl
 command-append (Print event) rest h e = rw (text-append event rest h) refl
 
@@ -140,20 +160,72 @@ set-is bytes behind command rest begins h =
       form_is = begins ∙ ap (λ t. codes "set " ++ t) whole ∙ sym (parted (codes "set ") (quoted event) (codes " ") (nameless dating) others);
     }))))
 
+-- What was read is the name of a node, and a statement that stands alone.
+record IsNodeAt (bytes : List ℕ) (name : Name) (node : Tree) (rest : List ℕ) : Type 0 where
+  pub named : IsText name
+  pub alone : IsAlone node
+  pub form_is : bytes ≡ quoted name ++ (codes " " ++ (text_of node ++ rest))
+
+node-is : (bytes : List ℕ) (name : Name) (node : Tree) (rest : List ℕ) → node_at bytes ≡ Some ((name, node), rest) → IsNodeAt bytes name node rest
+node-is bytes name node rest h =
+    passes _ (text_at bytes) _ ((name, node), rest) h (λ (found, after_name) named h1.
+    passes _ (after (codes " ") after_name) _ ((name, node), rest) h1 (λ next blank h2.
+    passes _ (alone_at next) _ ((name, node), rest) h2 (λ (statement, others) said h3.
+    let outer = parts (found, statement) (name, node) others rest h3 in
+    let is_name : found ≡ name = ap (λ (p : Name × Tree). p.0) outer.0 in
+    let is_node : statement ≡ node = ap (λ (p : Name × Tree). p.1) outer.0 in
+    let first = text-is bytes found after_name named in
+    let second = alone-is next statement others said in
+    let between : after_name ≡ codes " " ++ next = after-is (codes " ") after_name next blank in
+    let whole : bytes ≡ quoted found ++ (codes " " ++ (text_of statement ++ others)) = first.1 ∙ ap (λ t. quoted found ++ t) (between ∙ ap (λ t. codes " " ++ t) second.form) in
+    let node_is : IsNodeAt bytes found statement others = record { named = first.0; alone = second.alone; form_is = whole } in
+    let P : Name → Type 0 = λ n. IsNodeAt bytes n node rest in
+    subst P is_name (subst₂ (IsNodeAt bytes found) is_node outer.1 node_is))))
+
 -- a new member
 add-is : (bytes behind : List ℕ) (command : Command) (rest : List ℕ) → bytes ≡ codes "add " ++ behind → add_at behind ≡ Some (command, rest) → IsCommandAt bytes command rest
 add-is bytes behind command rest begins h =
-    passes _ (text_at behind) _ (command, rest) h (λ (group, after_group) named h1.
-    passes _ (after (codes " ") after_group) _ (command, rest) h1 (λ next blank h2.
-    passes _ (alone_at next) _ (command, rest) h2 (λ (node, others) said h3.
-    let pair = parts (Change (Add group node)) command others rest h3 in
-    let first = text-is behind group after_group named in
-    let second = alone-is next node others said in
-    let between : after_group ≡ codes " " ++ next = after-is (codes " ") after_group next blank in
-    let whole : behind ≡ quoted group ++ (codes " " ++ (text_of node ++ others)) = first.1 ∙ ap (λ t. quoted group ++ t) (between ∙ ap (λ t. codes " " ++ t) second.form) in
+    passes _ (node_at behind) _ (command, rest) h (λ ((group, node), others) read h1.
+    let pair = parts (Change (Add group node)) command others rest h1 in
+    let both = node-is behind group node others read in
     subst₂ (IsCommandAt bytes) pair.0 pair.1 (record {
-      good = (first.0, second.alone);
-      form_is = begins ∙ ap (λ t. codes "add " ++ t) whole ∙ sym (parted (codes "add ") (quoted group) (codes " ") (text_of node) others);
+      good = (both.named, both.alone);
+      form_is = begins ∙ ap (λ t. codes "add " ++ t) both.form_is ∙ sym (parted (codes "add ") (quoted group) (codes " ") (text_of node) others);
+    }))
+
+-- a new node before another
+insert-is : (bytes behind : List ℕ) (command : Command) (rest : List ℕ) → bytes ≡ codes "insert " ++ behind → insert_at behind ≡ Some (command, rest) → IsCommandAt bytes command rest
+insert-is bytes behind command rest begins h =
+    passes _ (node_at behind) _ (command, rest) h (λ ((name, node), others) read h1.
+    let pair = parts (Change (InsertBefore name node)) command others rest h1 in
+    let both = node-is behind name node others read in
+    subst₂ (IsCommandAt bytes) pair.0 pair.1 (record {
+      good = (both.named, both.alone);
+      form_is = begins ∙ ap (λ t. codes "insert " ++ t) both.form_is ∙ sym (parted (codes "insert ") (quoted name) (codes " ") (text_of node) others);
+    }))
+
+-- a node that goes
+drop-is : (bytes behind : List ℕ) (command : Command) (rest : List ℕ) → bytes ≡ codes "drop " ++ behind → drop_at behind ≡ Some (command, rest) → IsCommandAt bytes command rest
+drop-is bytes behind command rest begins h =
+    passes _ (text_at behind) _ (command, rest) h (λ (name, others) read h1.
+    let pair = parts (Change (Drop name)) command others rest h1 in
+    let named = text-is behind name others read in
+    subst₂ (IsCommandAt bytes) pair.0 pair.1 (record { good = named.0; form_is = begins ∙ ap (λ t. codes "drop " ++ t) named.1 }))
+
+-- a new name
+rename-is : (bytes behind : List ℕ) (command : Command) (rest : List ℕ) → bytes ≡ codes "rename " ++ behind → rename_at behind ≡ Some (command, rest) → IsCommandAt bytes command rest
+rename-is bytes behind command rest begins h =
+    passes _ (text_at behind) _ (command, rest) h (λ (name, after_name) named h1.
+    passes _ (after (codes " ") after_name) _ (command, rest) h1 (λ next blank h2.
+    passes _ (title_at next) _ (command, rest) h2 (λ (new, others) titled h3.
+    let pair = parts (Change (Rename name new)) command others rest h3 in
+    let first = text-is behind name after_name named in
+    let second = title-is next new others titled in
+    let between : after_name ≡ codes " " ++ next = after-is (codes " ") after_name next blank in
+    let whole : behind ≡ quoted name ++ (codes " " ++ (quoted new ++ others)) = first.1 ∙ ap (λ t. quoted name ++ t) (between ∙ ap (λ t. codes " " ++ t) second.1) in
+    subst₂ (IsCommandAt bytes) pair.0 pair.1 (record {
+      good = (first.0, second.0);
+      form_is = begins ∙ ap (λ t. codes "rename " ++ t) whole ∙ sym (parted (codes "rename ") (quoted name) (codes " ") (quoted new) others);
     }))))
 
 -- a print
@@ -164,16 +236,18 @@ print-is bytes behind command rest begins h =
     let named = text-is behind event others read in
     subst₂ (IsCommandAt bytes) pair.0 pair.1 (record { good = named.0; form_is = begins ∙ ap (λ t. codes "print " ++ t) named.1 }))
 
--- what was read is a change of a dating, a commit or a print
+-- what was read sets, drops, renames, commits or prints
 change-is : (bytes : List ℕ) (command : Command) (rest : List ℕ) → change_at bytes ≡ Some (command, rest) → IsCommandAt bytes command rest
 unfolding change_at
 change-is bytes command rest h =
     branch _ (after (codes "set ") bytes) set_at _ (command, rest) h (λ behind word. set-is bytes behind command rest (after-is (codes "set ") bytes behind word)) (λ h1.
-    branch _ (after (codes "commit ") bytes) commit_at _ (command, rest) h1 (λ behind word. commit-is bytes behind command rest (after-is (codes "commit ") bytes behind word)) (λ h2.
-    branch _ (after (codes "print ") bytes) print_at _ (command, rest) h2 (λ behind word. print-is bytes behind command rest (after-is (codes "print ") bytes behind word)) (λ h3.
-    absurd (none-some _ h3))))
+    branch _ (after (codes "drop ") bytes) drop_at _ (command, rest) h1 (λ behind word. drop-is bytes behind command rest (after-is (codes "drop ") bytes behind word)) (λ h2.
+    branch _ (after (codes "rename ") bytes) rename_at _ (command, rest) h2 (λ behind word. rename-is bytes behind command rest (after-is (codes "rename ") bytes behind word)) (λ h3.
+    branch _ (after (codes "commit ") bytes) commit_at _ (command, rest) h3 (λ behind word. commit-is bytes behind command rest (after-is (codes "commit ") bytes behind word)) (λ h4.
+    branch _ (after (codes "print ") bytes) print_at _ (command, rest) h4 (λ behind word. print-is bytes behind command rest (after-is (codes "print ") bytes behind word)) (λ h5.
+    absurd (none-some _ h5))))))
 
--- what was read is a command other than `add`
+-- what was read is a command other than `add` and `insert`
 pub other-is : (bytes : List ℕ) (command : Command) (rest : List ℕ) → other_at bytes ≡ Some (command, rest) → IsCommandAt bytes command rest
 unfolding other_at
 other-is bytes command rest h =
@@ -187,7 +261,9 @@ other-is bytes command rest h =
 pub command-is : (bytes : List ℕ) (command : Command) (rest : List ℕ) → command_at bytes ≡ Some (command, rest) → IsCommandAt bytes command rest
 unfolding command_at
 command-is bytes command rest h =
-    branch _ (after (codes "add ") bytes) add_at _ (command, rest) h (λ behind word. add-is bytes behind command rest (after-is (codes "add ") bytes behind word)) (other-is bytes command rest)
+    branch _ (after (codes "add ") bytes) add_at _ (command, rest) h (λ behind word. add-is bytes behind command rest (after-is (codes "add ") bytes behind word)) (λ h1.
+    branch _ (after (codes "insert ") bytes) insert_at _ (command, rest) h1 (λ behind word. insert-is bytes behind command rest (after-is (codes "insert ") bytes behind word))
+    (other-is bytes command rest))
 
 -- a command that was read is one
 pub other-good : (bytes : List ℕ) (command : Command) (rest : List ℕ) → ◌≡◌ {A = Option (Command × List ℕ)} (Some (command, rest)) (other_at bytes) → IsCommand command
@@ -198,7 +274,12 @@ pub reads-add : (bytes behind : List ℕ) (o : Option (Command × List ℕ)) →
 unfolding command_at
 reads-add bytes behind o word read = rw (← word) read
 
--- or as another
-pub reads-other : (bytes : List ℕ) (o : Option (Command × List ℕ)) → None ≡ after (codes "add ") bytes → other_at bytes ≡ o → command_at bytes ≡ o
+-- or behind the next word
+pub reads-insert : (bytes behind : List ℕ) (o : Option (Command × List ℕ)) → None ≡ after (codes "add ") bytes → Some behind ≡ after (codes "insert ") bytes → insert_at behind ≡ o → command_at bytes ≡ o
 unfolding command_at
-reads-other bytes o word read = rw (← word) read
+reads-insert bytes behind o first word read = rw (← first, ← word) read
+
+-- or as another
+pub reads-other : (bytes : List ℕ) (o : Option (Command × List ℕ)) → None ≡ after (codes "add ") bytes → None ≡ after (codes "insert ") bytes → other_at bytes ≡ o → command_at bytes ≡ o
+unfolding command_at
+reads-other bytes o first word read = rw (← first, ← word) read

@@ -1,16 +1,19 @@
 -- A script is read as what it says, and what is read is what it says.
-use Rattle.std.proofs.Common.{◌≡◌, ℕ, zero, suc, ◌+◌, ◌-◌, ◌<◌, ◌≤◌, inl, inr, true, false, cond, fold, ◌==◌, eqb-true, List, [], ◌∷◌, ◌++◌, length, map, All, count_by, codes, slice_get, option_map, Option, Some, None, refl, sym, ap, ◌∙◌, subst, arith, append_assoc, append-nil}
+use Rattle.std.proofs.Common.{◌≡◌, ℕ, zero, suc, ◌+◌, ◌-◌, ◌<◌, ◌≤◌, inl, inr, true, false, cond, fold, ◌==◌, eqb-true, List, [], ◌∷◌, ◌++◌, length, map, All, count_by, codes, slice_get, option_map, Option, Some, None, ℤ, refl, sym, ap, ◌∙◌, subst, arith, append_assoc, append-nil}
 use Rattle.std.specs.List.{flat_map}
 use Rattle.std.proofs.lemmas.List.Elements.{All-nil, All-cons}
 use Rattle.std.proofs.lemmas.Option.{slice_get-map}
 use Rattle.std.proofs.lemmas.List.{length-map}
+use Rattle.std.proofs.lemmas.Int.{ints}
+use Rattle.cg_num.specs.Year.{IsYear}
 use Rattle.cg_model.proofs.PlaceLemmas.{All-slice_get}
 use Rattle.cg_form.specs.Text.{IsText, IsEnd}
 use Rattle.cg_form.proofs.StepLemmas.{passes, none-some}
 use Rattle.cg_form.proofs.ModelLemmas.{stated-range, written-range}
-use Rattle.cg_sharing.specs.Edit.{Set, Add}
+use Rattle.cg_sharing.specs.Edit.{Set, Add, InsertBefore, Drop, Rename}
 use Rattle.cg_sharing.specs.Command.{Command, Grid, Open, Take, Undo, Change, Commit, Print, Line}
-use Rattle.cg_script.specs.Form.{IsCommand, text_of_command, line_of, is_print, lines_from, IsScript, HasNoScript, IsSound, IsBounded}
+use Rattle.cg_sharing.specs.Course.{IsFit, AreFit}
+use Rattle.cg_script.specs.Form.{IsGridYear, IsCommand, text_of_command, line_of, is_print, lines_from, IsScript, HasNoScript, IsBounded}
 use Rattle.cg_script.specs.Reading.{line_at, commands_at}
 use Rattle.cg_script.proofs.LineLemmas.{first-line, line-is, no-line}
 
@@ -148,16 +151,23 @@ many-prints bytes commands e many = λ lines h.
 text-some : (text : List ℕ) → IsText text → text ≡ [] → ⊥
 text-some text h e = absurd (omega (arith, h.some, ap (λ t. length t) e))
 
--- a command of a script is sound
-pub command-sound : (command : Command) → IsCommand command → IsSound command
-command-sound (Grid older younger) h = tt
-command-sound (Open name) h = tt
-command-sound (Take version) h = tt
-command-sound Undo h = tt
-command-sound (Change (Set event dating)) h = (text-some event h.0, stated-range dating h.1)
-command-sound (Change (Add group node)) h = (text-some group h.0, written-range node (h.1).written)
-command-sound (Commit name) h = tt
-command-sound (Print event) h = tt
+-- the year of a grid is a year
+grid-year : (year : ℤ) → IsGridYear year → IsYear year
+grid-year year h = (omega (arith, ints, h.0), h.1)
+
+-- what a command of a script brings is in order
+pub command-fit : (command : Command) → IsCommand command → IsFit command
+command-fit (Grid older younger) h = (grid-year older h.0, grid-year younger h.1)
+command-fit (Open name) h = tt
+command-fit (Take version) h = tt
+command-fit Undo h = tt
+command-fit (Change (Set event dating)) h = (text-some event h.0, stated-range dating h.1)
+command-fit (Change (Add group node)) h = (text-some group h.0, written-range node (h.1).written)
+command-fit (Change (InsertBefore name node)) h = (text-some name h.0, written-range node (h.1).written)
+command-fit (Change (Drop name)) h = text-some name h
+command-fit (Change (Rename name new)) h = text-some name h.0
+command-fit (Commit name) h = tt
+command-fit (Print event) h = text-some event h
 
 -- each command has a line
 length-lines_from : (number : ℕ) (commands : List Command) → length (lines_from number commands) ≡ length commands
@@ -184,11 +194,15 @@ pub count_by-meant : {A : Type 0} (f : A → Command) (xs : List A) → count_by
 count_by-meant f xs = counted-behind 0 f xs
 
 -- what holds of each command holds of each line
-sound-lines_from : (number : ℕ) (commands : List Command) → All IsCommand commands → All (λ (line : Line). IsSound line.command) (lines_from number commands)
-sound-lines_from number [] h = All-nil (λ (line : Line). IsSound line.command)
-sound-lines_from number (c ∷ cs) h =
-    All-cons (λ (line : Line). IsSound line.command) (record { number = number; command = c }) (lines_from (number + 1) cs) (command-sound c (h 0 c (omega arith)))
-    (sound-lines_from (number + 1) cs (λ k d below. h (suc k) d (omega arith)))
+fit-lines_from : (number : ℕ) (commands : List Command) → All IsCommand commands → AreFit (lines_from number commands)
+fit-lines_from number [] h = All-nil (λ (line : Line). IsFit line.command)
+fit-lines_from number (c ∷ cs) h =
+    All-cons (λ (line : Line). IsFit line.command) (record { number = number; command = c }) (lines_from (number + 1) cs) (command-fit c (h 0 c (omega arith)))
+    (fit-lines_from (number + 1) cs (λ k d below. h (suc k) d (omega arith)))
+
+-- and of those of a script
+pub fit_script : (bytes : List ℕ) (lines : List Line) → IsScript bytes lines → AreFit lines
+fit_script bytes lines script = let P : List Line → Type 0 = λ ls. AreFit ls in subst P (sym script.numbered) (fit-lines_from 1 script.commands script.each)
 
 -- a script that was read is bounded
 pub read-bounded : (bytes : List ℕ) (commands : List Command) → commands_at 1000 [] bytes ≡ Some commands → count_by is_print commands ≤ 200 → IsBounded (lines_from 1 commands)
@@ -199,7 +213,7 @@ read-bounded bytes commands h few =
     record {
       few = omega (arith, read.few, ap (λ cs. length cs) says, length-lines_from 1 commands);
       prints = omega (arith, few, prints-lines_from 1 commands);
-      sound = sound-lines_from 1 commands (subst P says read.good);
+      fit = fit-lines_from 1 commands (subst P says read.good);
     }
 
 -- a line is read, and its command put behind the others
@@ -253,6 +267,6 @@ line-meant f xs place x h =
 pub length-meant : {A : Type 0} (f : A → Command) (xs : List A) → length (lines_from 1 (map f xs)) ≡ length xs
 length-meant f xs = length-lines_from 1 (map f xs) ∙ length-map xs f
 
--- a command of a bounded script is sound
-pub bounded-sound : (lines : List Line) (place number : ℕ) (command : Command) → IsBounded lines → slice_get lines place ≡ Some (record { number = number; command = command }) → IsSound command
-bounded-sound lines place number command h is = All-slice_get (λ (line : Line). IsSound line.command) lines place (record { number = number; command = command }) h.sound is
+-- what a command of a bounded script brings is in order
+pub bounded-fit : (lines : List Line) (place number : ℕ) (command : Command) → IsBounded lines → slice_get lines place ≡ Some (record { number = number; command = command }) → IsFit command
+bounded-fit lines place number command h is = All-slice_get (λ (line : Line). IsFit line.command) lines place (record { number = number; command = command }) h.fit is

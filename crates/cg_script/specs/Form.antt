@@ -5,9 +5,9 @@ use Rattle.std.specs.Char.{is_ascii_alphanumeric}
 use Rattle.std.specs.Fmt.{signed_decimal}
 use Rattle.cg_meaning.specs.Tree.{Name}
 use Rattle.cg_form.specs.Text.{IsText, quoted, IsEnd}
-use Rattle.cg_form.specs.Model.{IsStated, nameless, text_of, IsAlone}
-use Rattle.cg_sharing.specs.Edit.{Edit, Set, Add}
-use Rattle.cg_sharing.specs.Journal.{IsInOrder}
+use Rattle.cg_form.specs.Model.{IsStated, nameless, IsTitle, text_of, IsAlone}
+use Rattle.cg_sharing.specs.Edit.{Edit, Set, Add, InsertBefore, Drop, Rename}
+use Rattle.cg_sharing.specs.Course.{AreFit}
 use Rattle.cg_sharing.specs.Command.{Command, Grid, Open, Take, Undo, Change, Commit, Print, Line}
 
 -- what the name of a model consists of: letters, digits, `_`, `-` and `.`
@@ -24,15 +24,21 @@ pub record IsName (name : Name) : Type 0 where
 abbrev pub IsGridYear : ℤ → Type 0
 IsGridYear year = (pos 0 ≤ℤ year) × (year ≤ℤ pos 60000)
 
--- a dating that a statement may say, or a statement that stands alone
+-- a dating that a statement may say, a statement that stands alone, or a new name, which may be empty
 abbrev pub IsChange : Edit → Type 0
 IsChange (Set event dating) = IsText event × IsStated dating
 IsChange (Add group node) = IsText group × IsAlone node
+IsChange (InsertBefore name node) = IsText name × IsAlone node
+IsChange (Drop name) = IsText name
+IsChange (Rename name new) = IsText name × IsTitle new
 
 -- a dating stands without a name
 abbrev pub text_of_change : Edit → List ℕ
 text_of_change (Set event dating) = codes "set " ++ quoted event ++ codes " " ++ nameless dating
 text_of_change (Add group node) = codes "add " ++ quoted group ++ codes " " ++ text_of node
+text_of_change (InsertBefore name node) = codes "insert " ++ quoted name ++ codes " " ++ text_of node
+text_of_change (Drop name) = codes "drop " ++ quoted name
+text_of_change (Rename name new) = codes "rename " ++ quoted name ++ codes " " ++ quoted new
 
 -- what each command may be given
 abbrev pub IsCommand : Command → Type 0
@@ -92,18 +98,8 @@ HasNoScript bytes = (lines : List Line) → ¬ IsScript bytes lines
 abbrev pub IsOneScript : Type 0
 IsOneScript = (bytes : List ℕ) (x y : List Line) → IsScript bytes x → IsScript bytes y → x ≡ y
 
--- the change of a command, where it has one, is in order
-abbrev pub IsSound : Command → Type 0
-IsSound (Grid older younger) = Unit {0}
-IsSound (Open name) = Unit {0}
-IsSound (Take version) = Unit {0}
-IsSound Undo = Unit {0}
-IsSound (Change edit) = IsInOrder edit
-IsSound (Commit name) = Unit {0}
-IsSound (Print event) = Unit {0}
-
--- What holds of each script that was read: at most 1,000 commands and 200 prints, and sound changes.
+-- What holds of each script that was read: at most 1,000 commands and 200 prints, and what each command brings is in order.
 pub record IsBounded (lines : List Line) : Type 0 where
   pub few : length lines ≤ 1000
   pub prints : count_by (λ line. is_print line.command) lines ≤ 200
-  pub sound : All (λ line. IsSound line.command) lines
+  pub fit : AreFit lines

@@ -1,16 +1,26 @@
 -- How a script is read from front to back: what it says, or none.
 use Rattle.std.specs.Prelude.{ℕ, zero, suc, List, [], ◌∷◌, ◌++◌, codes, Option, Some, None, ℤ, pos, nat_le, if◌then◌else◌}
-use Rattle.cg_meaning.specs.Tree.{Name}
+use Rattle.cg_meaning.specs.Tree.{Name, Tree}
 use Rattle.cg_form.specs.Pieces.{◌>>=◌, after, behind_or, run_at, text_at, number_at}
 use Rattle.cg_form.specs.Values.{nameless_at}
 use Rattle.cg_form.specs.Reading.{alone_at}
-use Rattle.cg_sharing.specs.Edit.{Set, Add}
+use Rattle.cg_sharing.specs.Edit.{Set, Add, InsertBefore, Drop, Rename}
 use Rattle.cg_sharing.specs.Command.{Command, Grid, Open, Take, Undo, Change, Commit, Print}
 use Rattle.cg_script.specs.Form.{is_name_byte}
 
 -- the name of a model, with no byte of a name behind it
 abbrev pub name_at : List ℕ → Option (Name × List ℕ)
 name_at bytes = run_at is_name_byte 64 bytes
+
+-- the new name of a node between its quotes: a text, or none
+abbrev pub title_at : List ℕ → Option (Name × List ℕ)
+title_at bytes = behind_or (after (codes "\"\"") bytes) (λ rest. Some ([], rest)) (text_at bytes)
+
+-- the name of a node, and a statement that stands alone
+abbrev pub node_at : List ℕ → Option ((Name × Tree) × List ℕ)
+node_at bytes =
+    text_at bytes >>= λ name. after (codes " ") name.1 >>= λ behind. alone_at behind >>= λ node.
+    Some ((name.0, node.0), node.1)
 
 -- the year of a grid
 abbrev pub grid_year : ℕ → Option ℤ
@@ -38,9 +48,18 @@ set_at bytes =
     Some (Change (Set event.0 dating.0), dating.1)
 
 abbrev pub add_at : List ℕ → Option (Command × List ℕ)
-add_at bytes =
-    text_at bytes >>= λ group. after (codes " ") group.1 >>= λ behind. alone_at behind >>= λ node.
-    Some (Change (Add group.0 node.0), node.1)
+add_at bytes = node_at bytes >>= λ read. Some (Change (Add (read.0).0 (read.0).1), read.1)
+
+abbrev pub insert_at : List ℕ → Option (Command × List ℕ)
+insert_at bytes = node_at bytes >>= λ read. Some (Change (InsertBefore (read.0).0 (read.0).1), read.1)
+
+abbrev pub drop_at : List ℕ → Option (Command × List ℕ)
+drop_at bytes = text_at bytes >>= λ name. Some (Change (Drop name.0), name.1)
+
+abbrev pub rename_at : List ℕ → Option (Command × List ℕ)
+rename_at bytes =
+    text_at bytes >>= λ name. after (codes " ") name.1 >>= λ behind. title_at behind >>= λ new.
+    Some (Change (Rename name.0 new.0), new.1)
 
 abbrev pub commit_at : List ℕ → Option (Command × List ℕ)
 commit_at bytes = name_at bytes >>= λ name. Some (Commit name.0, name.1)
@@ -48,14 +67,16 @@ commit_at bytes = name_at bytes >>= λ name. Some (Commit name.0, name.1)
 abbrev pub print_at : List ℕ → Option (Command × List ℕ)
 print_at bytes = text_at bytes >>= λ event. Some (Print event.0, event.1)
 
--- a command that sets, commits or prints
+-- a command that sets, drops, renames, commits or prints
 unfoldable pub change_at : List ℕ → Option (Command × List ℕ)
 change_at bytes =
     behind_or (after (codes "set ") bytes) set_at
+    (behind_or (after (codes "drop ") bytes) drop_at
+    (behind_or (after (codes "rename ") bytes) rename_at
     (behind_or (after (codes "commit ") bytes) commit_at
-    (behind_or (after (codes "print ") bytes) print_at None))
+    (behind_or (after (codes "print ") bytes) print_at None))))
 
--- a command other than `add`
+-- a command other than `add` and `insert`
 unfoldable pub other_at : List ℕ → Option (Command × List ℕ)
 other_at bytes =
     behind_or (after (codes "grid ") bytes) grid_at
@@ -66,7 +87,10 @@ other_at bytes =
 
 -- a command
 unfoldable pub command_at : List ℕ → Option (Command × List ℕ)
-command_at bytes = behind_or (after (codes "add ") bytes) add_at (other_at bytes)
+command_at bytes =
+    behind_or (after (codes "add ") bytes) add_at
+    (behind_or (after (codes "insert ") bytes) insert_at
+    (other_at bytes))
 
 -- the end of a line: an LF, or the end of the script
 abbrev pub line_end : List ℕ → Option (List ℕ)

@@ -9,7 +9,7 @@ use Rattle.cg_sharing.specs.Edit as meaning
 use Rattle.cg_sharing.specs.Command as spec
 use Rattle.cg_edit.specs.Plain.{edit_in}
 use Rattle.cg_edit.specs.declared.edit.Edit.{Edit}
-use Rattle.cg_edit.specs.declared.edit.Edit.TheVariants.{Set, Add}
+use Rattle.cg_edit.specs.declared.edit.Edit.TheVariants.{Set, Add, InsertBefore, Drop, Rename}
 use Rattle.cg_script.specs.declared.command.Command.{Command}
 use Rattle.cg_script.specs.declared.command.Command.TheVariants.{Grid, Open, Take, Undo, Change, Commit, Print}
 use Rattle.cg_script.specs.contracts.command.Command as command
@@ -19,6 +19,9 @@ use Rattle.cg_script.specs.Command.{command_in}
 abbrev pub edit_back : meaning.Edit → Edit
 edit_back (meaning.Set name dating) = Set name (dating_back dating)
 edit_back (meaning.Add name node) = Add name (node_of node)
+edit_back (meaning.InsertBefore name node) = InsertBefore name (node_of node)
+edit_back (meaning.Drop name) = Drop name
+edit_back (meaning.Rename name new) = Rename name new
 
 -- a command that means this
 abbrev pub command_back : spec.Command → Command
@@ -39,6 +42,9 @@ dating_again (tree.Carbon age error) = refl
 edit_again : (e : meaning.Edit) → edit_in (edit_back e) ≡ e
 edit_again (meaning.Set name dating) = ap (λ d. meaning.Set name d) (dating_again dating)
 edit_again (meaning.Add name node) = ap (λ t. meaning.Add name t) (tree_again node)
+edit_again (meaning.InsertBefore name node) = ap (λ t. meaning.InsertBefore name t) (tree_again node)
+edit_again (meaning.Drop name) = refl
+edit_again (meaning.Rename name new) = refl
 
 pub command_again : (c : spec.Command) → command_in (command_back c) ≡ c
 command_again (spec.Grid older younger) = refl

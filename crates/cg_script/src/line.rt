@@ -1,7 +1,8 @@
 //! One line of a script.
 ghost use Rattle.std.specs.Prelude.{◌≡◌, Some, None, option_map, IfOk};
+ghost use Rattle.cg_model.specs.Node.{tree_of};
 ghost use Rattle.cg_script.specs.Command.{command_in};
-ghost use Rattle.cg_script.specs.Reading.{grid_year, year_at, grid_at, open_at, take_at, other_at, add_at, command_at, line_end, line_at};
+ghost use Rattle.cg_script.specs.Reading.{grid_year, year_at, grid_at, open_at, take_at, other_at, node_at, add_at, insert_at, command_at, line_end, line_at};
 ghost use Rattle.cg_script.specs.Written.{said_by};
 
 use crate::change::change_at;
@@ -11,6 +12,7 @@ use crate::name::name_at;
 use crate::written::{Written, owned};
 use cg_edit::Edit;
 use cg_form::{FormFault, after, alone_at, name_of, number_at, text_at};
+use cg_model::{Name, Node};
 use cg_num::Year;
 use std::alloc::Global;
 
@@ -57,7 +59,7 @@ fn take_at(bytes: &[u8]) -> Option<(Written, &[u8])>
     Some((Written::Take(version), rest))
 }
 
-/// A command other than `add`, and what comes after it.
+/// A command other than `add` and `insert`, and what comes after it.
 #[tactic(auto, unfolding(crate::specs::Reading::other_at))]
 fn other_at(bytes: &[u8]) -> Option<(Written, &[u8])>
     ensures { option_map (λ read. (said_by read.0, read.1.now)) result ≡ other_at bytes.now }
@@ -86,24 +88,38 @@ fn line_end(bytes: &[u8]) -> Option<&[u8]>
     }
 }
 
-fn add_at(alloc: Global, bytes: &[u8]) -> Result<(Command, &[u8]), ScriptFault>
-    ensures ok { IfOk result (λ read. add_at bytes.now ≡ Some (command_in read.0, read.1.now)) }
-    ensures form { result ≡ Err ScriptFault.Form → add_at bytes.now ≡ None }
+// the name of a node, and the statement behind it
+fn node_at(alloc: Global, bytes: &[u8]) -> Result<((Name, Node), &[u8]), ScriptFault>
+    ensures ok { IfOk result (λ read. node_at bytes.now ≡ Some (((read.0).0, tree_of (read.0).1), read.1.now)) }
+    ensures form { result ≡ Err ScriptFault.Form → node_at bytes.now ≡ None }
 {
-    let Some((group, behind)) = text_at(bytes) else {
+    let Some((name, behind)) = text_at(bytes) else {
         return Err(ScriptFault::Form);
     };
     let Some(behind) = after(behind, b" ") else {
         return Err(ScriptFault::Form);
     };
     match alone_at(alloc, behind) {
-        Ok((node, rest)) => {
-            let group = name_of(alloc, group)?;
-            Ok((Command::Change(Edit::Add(group, node)), rest))
-        }
+        Ok((node, rest)) => Ok(((name_of(alloc, name)?, node), rest)),
         Err(FormFault::Form) => Err(ScriptFault::Form),
         Err(FormFault::NoMemory) => Err(ScriptFault::NoMemory),
     }
+}
+
+fn add_at(alloc: Global, bytes: &[u8]) -> Result<(Command, &[u8]), ScriptFault>
+    ensures ok { IfOk result (λ read. add_at bytes.now ≡ Some (command_in read.0, read.1.now)) }
+    ensures form { result ≡ Err ScriptFault.Form → add_at bytes.now ≡ None }
+{
+    let ((group, node), rest) = node_at(alloc, bytes)?;
+    Ok((Command::Change(Edit::Add(group, node)), rest))
+}
+
+fn insert_at(alloc: Global, bytes: &[u8]) -> Result<(Command, &[u8]), ScriptFault>
+    ensures ok { IfOk result (λ read. insert_at bytes.now ≡ Some (command_in read.0, read.1.now)) }
+    ensures form { result ≡ Err ScriptFault.Form → insert_at bytes.now ≡ None }
+{
+    let ((name, node), rest) = node_at(alloc, bytes)?;
+    Ok((Command::Change(Edit::InsertBefore(name, node)), rest))
 }
 
 fn command_at(alloc: Global, bytes: &[u8]) -> Result<(Command, &[u8]), ScriptFault>
@@ -112,6 +128,9 @@ fn command_at(alloc: Global, bytes: &[u8]) -> Result<(Command, &[u8]), ScriptFau
 {
     if let Some(behind) = after(bytes, b"add ") {
         return add_at(alloc, behind);
+    }
+    if let Some(behind) = after(bytes, b"insert ") {
+        return insert_at(alloc, behind);
     }
     let Some((written, rest)) = other_at(bytes) else {
         return Err(ScriptFault::Form);

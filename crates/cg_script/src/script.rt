@@ -1,6 +1,7 @@
 ghost use Rattle.std.specs.Prelude.{◌≡◌, ◌<◌, ◌≤◌, [], length, map, count_by, slice_get, IfOk, Some, None};
+ghost use Rattle.cg_sharing.specs.Course.{IsFit};
 ghost use Rattle.cg_script.specs.Command.{command_in};
-ghost use Rattle.cg_script.specs.Form.{is_print, IsScript, HasNoScript, IsSound, IsBounded};
+ghost use Rattle.cg_script.specs.Form.{is_print, IsScript, HasNoScript, IsBounded};
 ghost use Rattle.cg_script.specs.Reading.{commands_at};
 
 use crate::command::Command;
@@ -52,7 +53,7 @@ impl Script {
     pub fn get(&self, place: usize) -> (u32, &Command)
         requires { place < length self.now }
         ensures line { slice_get self.now place ≡ Some (record { number = result.0; command = command_in result.1.now }) }
-        ensures sound { IsSound (command_in result.1.now) }
+        ensures fit { IsFit (command_in result.1.now) }
     {
         let command = &self.commands[place];
         (place as u32 + 1, command)
@@ -101,9 +102,10 @@ fn commands_at(alloc: Global, bytes: &[u8]) -> Result<Vec<Command>, ScriptFault>
 /// The script that bytes say. `Form` comes exactly where they are not in the plain Form of a script.
 ///
 /// A line is one of `grid OLDER YOUNGER`, `open NAME`, `take vN`, `undo`, `set "EVENT" STATEMENT`,
-/// `add "GROUP" STATEMENT`, `commit NAME` and `print "EVENT"`. The years are 0 to 60,000 cal BP. A statement of `set` is
-/// `Date();`, `C_Date(Y);`, `C_Date(Y,E);` or `R_Date(A,E);`, and that of `add` any one statement of a model file, a
-/// Boundary too, within the limits of a model.
+/// `add "GROUP" STATEMENT`, `insert "NODE" STATEMENT`, `drop "NODE"`, `rename "NODE" "NEW"`, `commit NAME` and
+/// `print "EVENT"`. The years are 0 to 60,000 cal BP. A statement of `set` is `Date();`, `C_Date(Y);`, `C_Date(Y,E);` or
+/// `R_Date(A,E);`, and that of `add` and `insert` any one statement of a model file, a Boundary too, within the limits of
+/// a model. A new name may be empty.
 pub fn read_script(alloc: Global, bytes: &[u8]) -> Result<Script, ScriptFault>
     ensures ok { IfOk result (λ script. IsScript bytes.now script) }
     ensures form { result ≡ Err ScriptFault.Form → HasNoScript bytes.now }

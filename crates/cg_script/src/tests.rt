@@ -42,6 +42,18 @@ fn edit_text(alloc: Global, edit: &Edit) -> Result<String, AllocError> {
             let (name, node) = (name.text(), node_text(alloc, node)?);
             format!(in alloc; "Add {name} {node}")
         }
+        Edit::InsertBefore(name, node) => {
+            let (name, node) = (name.text(), node_text(alloc, node)?);
+            format!(in alloc; "Insert {node} before {name}")
+        }
+        Edit::Drop(name) => {
+            let name = name.text();
+            format!(in alloc; "Drop {name}")
+        }
+        Edit::Rename(name, new) => {
+            let (name, new) = (name.text(), new.text());
+            format!(in alloc; "Rename {name} to {new}")
+        }
     }
 }
 
@@ -121,6 +133,27 @@ fn accepted(rt: HostRuntime) -> Result<(), Fail> {
         ),
         ("add \"s\" Date(\"C\");\n", "1 Add s C free;"),
         ("add \"s\" C_Date(\"C\",-1);\n", "1 Add s C 1950;"),
+        (
+            "insert \"A\" Boundary(\"C\");\n",
+            "1 Insert Boundary C before A;",
+        ),
+        (
+            "insert \"A\" R_Date(\"C\",2000,30.5);\n",
+            "1 Insert C aged 2000000 by 30500 before A;",
+        ),
+        (
+            "insert \"A\" Sequence(){Boundary(\"b\");Date(\"C\");};",
+            "1 Insert Sequence  of 2 before A;",
+        ),
+        ("drop \"A\"\n", "1 Drop A;"),
+        (
+            "drop \"abcdefghijklmnopqrst\"",
+            "1 Drop abcdefghijklmnopqrst;",
+        ),
+        ("rename \"A\" \"B\"\n", "1 Rename A to B;"),
+        ("rename \"A\" \"A\"\n", "1 Rename A to A;"),
+        ("rename \"A\" \"\"\n", "1 Rename A to ;"),
+        ("rename \"A\" \"\"", "1 Rename A to ;"),
         ("commit main\n", "1 Commit main;"),
         ("print \"A\"\n", "1 Print A;"),
         (
@@ -134,6 +167,10 @@ fn accepted(rt: HostRuntime) -> Result<(), Fail> {
         (
             "open main\nadd \"s\" Date(\"D\");\ncommit main\nundo\nundo\ntake v7\n",
             "1 Open main;2 Add s D free;3 Commit main;4 Undo;5 Undo;6 Take 7;",
+        ),
+        (
+            "rename \"A\" \"B\"\ninsert \"B\" Date(\"A\");\ndrop \"B\"\n",
+            "1 Rename A to B;2 Insert A free before B;3 Drop B;",
         ),
     ];
     for (bytes, want) in cases {
@@ -196,6 +233,39 @@ fn refused(rt: HostRuntime) -> Result<(), Fail> {
         "add \"s\" Date(\"C\");Date(\"D\");\n",
         "add \"s\" C_Date(\"C\",5,0.999);\n",
         "add \"s\" Date(\"C\")\n",
+        "insert \"A\"\n",
+        "insert \"A\" \n",
+        "insert \"A\"  Date(\"C\");\n",
+        "insert  \"A\" Date(\"C\");\n",
+        "insert \"A\"Date(\"C\");\n",
+        "insert \"A Date(\"C\");\n",
+        "insert \"\" Date(\"C\");\n",
+        "insert \"A\" Date();\n",
+        "insert \"A\" Phase(){Boundary(\"C\");};\n",
+        "insert \"A\" Date(\"C\");Date(\"D\");\n",
+        "insertx \"A\" Date(\"C\");\n",
+        "drop\n",
+        "drop A\n",
+        "drop \"A\n",
+        "drop A\"\n",
+        "drop  \"A\"\n",
+        "drop \"A\" \n",
+        "drop \"A\" \"B\"\n",
+        "drop \"\"\n",
+        "drops \"A\"\n",
+        "rename \"A\"\n",
+        "rename \"A\" \n",
+        "rename \"A\" B\n",
+        "rename \"A\" \"B\n",
+        "rename \"A\" \"\n",
+        "rename \"A\"  \"B\"\n",
+        "rename \"A\"\"B\"\n",
+        "rename \"A\" \"B\" \n",
+        "rename \"A\" \"\"B\"\n",
+        "rename \"A\" \"B C\"\n",
+        "rename \"A\" \"abcdefghijklmnopqrstu\"\n",
+        "rename \"\" \"B\"\n",
+        "renames \"A\" \"B\"\n",
         "commit\n",
         "commit main main\n",
         "print A\n",

@@ -10,7 +10,7 @@ use cg_model::Dating;
 use cg_num::{NoMemory, Year};
 use std::alloc::Global;
 
-/// A command other than `add`, whose names still stand in the bytes.
+/// A command other than `add` and `insert`, whose names still stand in the bytes.
 #[derive(Drop)]
 pub enum Written<'a> {
     Grid(Year, Year),
@@ -18,6 +18,8 @@ pub enum Written<'a> {
     Take(u32),
     Undo,
     Set(&'a str, Dating),
+    Drop(&'a str),
+    Rename(&'a str, &'a str),
     Commit(&'a str),
     Print(&'a str),
 }
@@ -34,6 +36,11 @@ pub fn owned(alloc: Global, written: &Written) -> Result<Command, NoMemory>
         Written::Undo => Ok(Command::Undo),
         Written::Set(event, dating) => {
             Ok(Command::Change(Edit::Set(name_of(alloc, event)?, *dating)))
+        }
+        Written::Drop(name) => Ok(Command::Change(Edit::Drop(name_of(alloc, name)?))),
+        Written::Rename(name, new) => {
+            let (name, new) = (name_of(alloc, name)?, name_of(alloc, new)?);
+            Ok(Command::Change(Edit::Rename(name, new)))
         }
         Written::Commit(name) => Ok(Command::Commit(name_of(alloc, name)?)),
         Written::Print(event) => Ok(Command::Print(name_of(alloc, event)?)),

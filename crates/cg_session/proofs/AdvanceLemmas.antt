@@ -3,8 +3,7 @@ use Rattle.std.proofs.Common.{◌≡◌, ℕ, ◌+◌, ◌<◌, ◌≤◌, Bool,
 use Rattle.std.proofs.lemmas.Option.{slice_get_within}
 use Rattle.std.proofs.lemmas.List.Elements.{All-take}
 use Rattle.std.proofs.lemmas.List.{take_all}
-use Rattle.cg_sharing.specs.Command as command
-use Rattle.cg_sharing.specs.Command.{Command, Line}
+use Rattle.cg_sharing.specs.Command.{Line}
 use Rattle.cg_sharing.specs.Versions.{State, count_of, chronology_of}
 use Rattle.cg_sharing.specs.Journal.{Act, Answer, Entry, state_after, May, IsLegal}
 use Rattle.cg_sharing.specs.Course.{Marginals, Place, act_of, settled, answered, AreOthers, IsRunning, IsEnded, stopped_at, IsStopped, Reaches, IsFit, AreFit}
@@ -14,26 +13,17 @@ use Rattle.cg_sharing.proofs.ReachLemmas.{SameText, chronology_of-state_after, s
 use Rattle.cg_book.specs.Plain.{Seen, state_of}
 use Rattle.cg_session.specs.declared.session.Session.{Session}
 use Rattle.cg_session.specs.declared.standing.Version.{Version}
-use Rattle.cg_session.specs.Standing.{place_in, number_of, HasText, IsSpare, IsReady}
+use Rattle.cg_session.specs.Standing.{place_in, number_of, HasText, IsSpare}
 use Rattle.cg_session.specs.Port.{Grows}
 use Rattle.cg_session.specs.declared.session.Progress.{Progress}
 use Rattle.cg_session.specs.declared.session.Progress.TheVariants.{Moved, Stopped}
 use Rattle.cg_meaning.specs.Tree.{Name}
 use Rattle.std.specs.Prelude.{MatchOption}
-use Rattle.cg_session.specs.Session.{AreReady, Stands, IsAt, standing_of, Makes, Stops, Came}
+use Rattle.cg_session.specs.Session.{Stands, IsAt, standing_of, Makes, Stops, Came}
 use Rattle.cg_session.proofs.SessionLemmas.{reaches_at, take-slice_get}
 
-fit_of : (c : Command) → IsReady c → IsFit c
-fit_of (command.Grid older younger) ready = tt
-fit_of (command.Open name) ready = tt
-fit_of (command.Take version) ready = tt
-fit_of command.Undo ready = tt
-fit_of (command.Change edit) ready = ready
-fit_of (command.Commit name) ready = tt
-fit_of (command.Print name) ready = tt
-
-pub fits : (n : ℕ) (lines : List Line) → AreReady lines → AreFit (take n lines)
-fits n lines ready = All-take (λ (line : Line). IsFit line.command) n lines (λ i d within. fit_of _ (ready i d within))
+pub fits : (n : ℕ) (lines : List Line) → AreFit lines → AreFit (take n lines)
+fits n lines ready = All-take (λ (line : Line). IsFit line.command) n lines ready
 
 -- the start is closed
 pub closed_start : (marginals : Marginals) (seen : Seen) (s : Session) → IsAt marginals seen s → IsClosed seen.start
@@ -113,7 +103,7 @@ answered_at marginals seen new s t line act answer others run at here is theirs 
       models = at.models;
       start = begins ∙ at.start;
       legal = legal;
-      ready = subst (λ ls. AreReady ls) (sym script) at.ready;
+      ready = subst (λ ls. AreFit ls) (sym script) at.ready;
       within = omega (arith, within, done, ap (λ (ls : List Line). length ls) script);
       stands = stands-on marginals seen.start new.start ((seen.journal ++ others) ++ entry ∷ []) new.journal s.number t.number s.script t.script (s.done + 1) t.done (answered line answer p) (place_in t.standing) false t.stopped
           begins grown number script done place (stopped ∙ run) (subst R (sym (take-slice_get s.script s.done line here)) then);
@@ -188,7 +178,7 @@ settled_at marginals seen new alone before s t line act spare result None run at
         models = at.models;
         start = grows.start ∙ at.start;
         legal = legal;
-        ready = subst (λ ls. AreReady ls) (sym script) at.ready;
+        ready = subst (λ ls. AreFit ls) (sym script) at.ready;
         within = omega (arith, at.within, came.2, ap (λ (ls : List Line). length ls) script);
         stands = stands;
         text = text (text_at marginals seen new s grows.others run at grows.start grows.journal);

@@ -1,11 +1,10 @@
 -- The first fault among datings, one by one.
-use Rattle.std.proofs.Common.{◌≡◌, ℕ, zero, suc, ◌+◌, ◌≤◌, List, [], ◌∷◌, drop, length, refl, ap, arith, Option, Some, None}
-use Rattle.std.specs.Prelude.{slice_get, All}
+use Rattle.std.proofs.Common.{◌≡◌, ℕ, zero, suc, ◌+◌, ◌≤◌, List, [], ◌∷◌, drop, length, ap, arith, Some, None}
+use Rattle.std.specs.Prelude.{slice_get}
 use Rattle.std.proofs.lemmas.List.{drop_all}
-use Rattle.std.proofs.lemmas.List.Elements.{All-nil, All-cons}
 use Rattle.cg_meaning.specs.Tree.{Dating}
 use Rattle.cg_meaning.specs.Scene.{Scene}
-use Rattle.cg_meaning.specs.Cover.{CoverFault, or_fault, cover_fault, first_fault, IsCovered}
+use Rattle.cg_meaning.specs.Cover.{or_fault, cover_fault, first_fault}
 
 pub drop-slice_get : {A : Type 0} (xs : List A) (n : ℕ) (x : A) → slice_get xs n ≡ Some x → drop n xs ≡ x ∷ drop (n + 1) xs
 drop-slice_get [] n x is = absurd (cc)
@@ -20,14 +19,3 @@ fault-at scene datings n dating is = ap (λ ds. first_fault scene ds) (drop-slic
 -- past the last dating there is none
 pub fault-end : (scene : Scene) (datings : List Dating) (n : ℕ) → length datings ≤ n → first_fault scene (drop n datings) ≡ None
 fault-end scene datings n past = ap (λ ds. first_fault scene ds) (drop_all n datings past)
-
-own-none : (fault other : Option CoverFault) → or_fault fault other ≡ None → (fault ≡ None) × (other ≡ None)
-own-none None other none = (refl, none)
-own-none (Some fault) other none = absurd (cc)
-
--- without a fault each is covered
-pub all-covered : (scene : Scene) (datings : List Dating) → first_fault scene datings ≡ None → All (λ dating. IsCovered scene dating) datings
-all-covered scene [] none = All-nil (λ dating. IsCovered scene dating)
-all-covered scene (d ∷ ds) none =
-    let each = own-none (cover_fault scene d) (first_fault scene ds) none in
-    All-cons (λ dating. IsCovered scene dating) d ds each.0 (all-covered scene ds each.1)

@@ -3,5 +3,4 @@ pub mod BaseLemmas
 pub mod CoverLemmas
 pub mod LineLemmas
 pub mod PortLemmas
-pub mod ReadyLemmas
 pub mod SessionLemmas

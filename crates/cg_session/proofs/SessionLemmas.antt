@@ -2,12 +2,12 @@
 use Rattle.std.proofs.Common.{◌≡◌, ℕ, zero, suc, ◌+◌, Bool, false, cond, is_some, List, [], ◌∷◌, ◌++◌, length, take, slice_get, MatchBool, refl, sym, ap, subst, ◌∙◌, arith, Some, None}
 use Rattle.std.proofs.lemmas.Option.{slice_get_within}
 use Rattle.cg_sharing.specs.Command.{Line}
-use Rattle.cg_sharing.specs.Course.{Marginals, Place, act_of, done_at, settled, entrance_of, IsStopped, Reaches}
+use Rattle.cg_sharing.specs.Course.{Marginals, Place, act_of, done_at, settled, entrance_of, IsStopped, Reaches, AreFit}
 use Rattle.cg_sharing.proofs.ReachLemmas.{reach_begin, reach_done, reach_others}
 use Rattle.cg_book.specs.Plain.{Seen, state_of}
 use Rattle.cg_session.specs.declared.session.Session.{Session}
 use Rattle.cg_session.specs.Standing.{place_in, HasText}
-use Rattle.cg_session.specs.Session.{AreReady, Stands, IsFresh, IsAt, IsSame}
+use Rattle.cg_session.specs.Session.{Stands, IsFresh, IsAt, IsSame}
 
 -- the same as `Stands`, by its parts
 abbrev StandsAs : Marginals → Seen → ℕ → List Line → ℕ → Place → Bool → Type 0
@@ -33,7 +33,7 @@ reaches_at marginals seen s is at =
     let P : Bool → Type 0 = λ b. StandsAs marginals seen s.number s.script s.done (place_in s.standing) b in subst P is at.stands
 
 -- A session begins where its course does.
-pub begun_at : (marginals : Marginals) (seen : Seen) (s : Session) → s.done ≡ 0 → s.stopped ≡ false → s.standing.version ≡ None → place_in s.standing ≡ entrance_of s.number → AreReady s.script → IsFresh s.number seen → IsAt marginals seen s
+pub begun_at : (marginals : Marginals) (seen : Seen) (s : Session) → s.done ≡ 0 → s.stopped ≡ false → s.standing.version ≡ None → place_in s.standing ≡ entrance_of s.number → AreFit s.script → IsFresh s.number seen → IsAt marginals seen s
 begun_at marginals seen s none run closed here ready fresh =
     let P : Place → Type 0 = λ p. Reaches marginals s.number seen.start (take s.done s.script) seen.journal p in
     let D : ℕ → Type 0 = λ n. Reaches marginals s.number seen.start (take n s.script) seen.journal (entrance_of s.number) in
@@ -53,7 +53,7 @@ same_at marginals seen old new same done place at = record {
   models = at.models;
   start = at.start;
   legal = at.legal;
-  ready = subst (λ ls. AreReady ls) (sym same.script) at.ready;
+  ready = subst (λ ls. AreFit ls) (sym same.script) at.ready;
   within = omega (arith, at.within, done, ap (λ (ls : List Line). length ls) same.script);
   stands = stands-same marginals seen old.number new.number old.script new.script old.done new.done (place_in old.standing) (place_in new.standing) old.stopped new.stopped same.number same.script done place same.stopped at.stands;
   text = subst (λ v. HasText (state_of seen) v) (sym same.version) at.text;
@@ -79,7 +79,7 @@ done_next marginals seen old new line same run here none place done at =
       models = at.models;
       start = at.start;
       legal = at.legal;
-      ready = subst (λ ls. AreReady ls) (sym same.script) at.ready;
+      ready = subst (λ ls. AreFit ls) (sym same.script) at.ready;
       within = omega (arith, more, done, ap (λ (ls : List Line). length ls) same.script);
       stands = stands-same marginals seen old.number new.number old.script new.script (old.done + 1) new.done q q old.stopped new.stopped same.number same.script done refl same.stopped
           (let B : Bool → Type 0 = λ b. StandsAs marginals seen old.number old.script (old.done + 1) q b in subst B (sym run) (subst R (sym (take-slice_get old.script old.done line here)) reach));

@@ -1,21 +1,17 @@
 -- Where the code's session is in its course.
-use Rattle.std.specs.Prelude.{◌≡◌, ℕ, ◌-◌, ◌<◌, ◌≤◌, List, [], ◌++◌, length, take, slice_get, All, MatchBool, false, Some, vec_len, vec_capacity}
+use Rattle.std.specs.Prelude.{◌≡◌, ℕ, ◌-◌, ◌<◌, ◌≤◌, List, [], ◌++◌, length, take, slice_get, MatchBool, false, Some, vec_len, vec_capacity}
 use Rattle.cg_sharing.specs.Command.{Line}
 use Rattle.cg_sharing.specs.Versions.{StartModel, start_of}
 use Rattle.cg_sharing.specs.Journal.{Act, Answer, Entry, IsLegal}
-use Rattle.cg_sharing.specs.Course.{Marginals, Place, act_of, AreOthers, IsRunning, IsEnded, IsStopped, Reaches}
+use Rattle.cg_sharing.specs.Course.{Marginals, Place, act_of, AreOthers, IsRunning, IsEnded, IsStopped, Reaches, AreFit}
 use Rattle.cg_book.specs.Plain.{Seen, state_of, asked}
 use Rattle.cg_session.specs.declared.session.Session.{Session}
 use Rattle.cg_session.specs.declared.session.Progress.{Progress}
 use Rattle.cg_session.specs.declared.session.Progress.TheVariants.{Moved, Ended, Stopped}
 use Rattle.cg_session.specs.declared.session.Asked.{Asked}
-use Rattle.cg_session.specs.Standing.{place_in, HasText, IsSpare, IsReady}
+use Rattle.cg_session.specs.Standing.{place_in, HasText, IsSpare}
 use Rattle.cg_session.specs.Port.{Grows}
 use Rattle.cg_session.specs.Transcript.{HasRoom}
-
--- each change of a script is in order, and each print names something
-abbrev pub AreReady : List Line → Type 0
-AreReady lines = All (λ line. IsReady line.command) lines
 
 -- the number of a session, and its script
 abbrev pub seat_of : Session → ℕ
@@ -52,7 +48,7 @@ pub record IsAt (marginals : Marginals) (seen : Seen) (session : Session) : Type
   pub models : List StartModel
   pub start : seen.start ≡ start_of models
   pub legal : IsLegal seen.start seen.journal
-  pub ready : AreReady session.script
+  pub ready : AreFit session.script
   pub within : session.done ≤ length session.script
   pub stands : Stands marginals seen session
   pub text : HasText (state_of seen) session.standing.version

@@ -1,5 +1,5 @@
 -- Where the code's session stands.
-use Rattle.std.specs.Prelude.{◌≡◌, ◌≢◌, ℕ, List, [], ◌∷◌, map, false, Option, Some, None, option_map}
+use Rattle.std.specs.Prelude.{◌≡◌, ℕ, List, [], ◌∷◌, map, false, Option, Some, None, option_map}
 use Rattle.std.specs.Arc.{arc_value}
 use Rattle.cg_meaning.specs.Tree.{Name}
 use Rattle.cg_meaning.specs.Scene.{Grid, Scene, scene_of}
@@ -7,7 +7,6 @@ use Rattle.cg_curve.specs.Curves.{NamedCurve}
 use Rattle.cg_sharing.specs.Command as command
 use Rattle.cg_sharing.specs.Command.{Command, Line}
 use Rattle.cg_sharing.specs.Versions.{Head, State, chronology_of}
-use Rattle.cg_sharing.specs.Journal.{IsInOrder}
 use Rattle.cg_sharing.specs.Course.{Marginals, Place}
 use Rattle.cg_recipe.specs.Recipe.{recipe}
 use Rattle.cg_up.specs.Curve.{rows_at}
@@ -55,9 +54,3 @@ abbrev pub IsSpare : Command → Option Name → Type 0
 IsSpare (command.Open name) spare = spare ≡ Some name
 IsSpare (command.Commit name) spare = spare ≡ Some name
 IsSpare other spare = spare ≡ None
-
--- a change is in order, and a print names something
-abbrev pub IsReady : Command → Type 0
-IsReady (command.Change edit) = IsInOrder edit
-IsReady (command.Print name) = name ≢ []
-IsReady other = Unit {0}

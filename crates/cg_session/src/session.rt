@@ -1,6 +1,6 @@
 ghost use Rattle.std.specs.Prelude.{◌≡◌, ◌<◌, ◌≤◌, ◌+◌, length, slice_get, Some, true, false, vec_len, vec_capacity, IfOk, OnErr, MatchOption};
 ghost use Rattle.cg_sharing.specs.Command as spec;
-ghost use Rattle.cg_sharing.specs.Course.{Marginals, answered, transcript_of};
+ghost use Rattle.cg_sharing.specs.Course.{Marginals, answered, transcript_of, AreFit};
 ghost use Rattle.cg_book.specs.Plain as book;
 ghost use Rattle.cg_book.specs.Plain.{Seen, state_of, Carries};
 
@@ -48,11 +48,11 @@ pub struct Session {
 impl Session {
     ghost use Rattle.cg_session.specs.Standing.{marginals_on, place_in, HasText, IsSpare};
     ghost use Rattle.cg_session.specs.Transcript.{HasRoom};
-    ghost use Rattle.cg_session.specs.Session.{seat_of, script_of, left_of, standing_of, AreReady, IsFresh, IsAt, IsSame, IsPrepared, Came};
+    ghost use Rattle.cg_session.specs.Session.{seat_of, script_of, left_of, standing_of, IsFresh, IsAt, IsSame, IsPrepared, Came};
 
     /// A session before its first command.
     pub fn new(alloc: Global, number: u32, script: Script) -> Result<Session, NoMemory>
-        requires { AreReady script }
+        requires { AreFit script }
         ensures at { IfOk result (λ session. (marginals : Marginals) (seen : Seen) → IsFresh number seen → IsAt marginals seen session) }
         ensures same { IfOk result (λ session. (seat_of session ≡ number) × (script_of session ≡ script)) }
         ensures going { IfOk result (λ session. (standing_of session).stopped ≡ false) }
@@ -79,7 +79,7 @@ impl Session {
         curves: &Curves,
         steps: &mut Steps<L>,
     ) -> Result<Option<Asked>, NoMemory>
-        requires ready { AreReady self.old.script }
+        requires ready { AreFit self.old.script }
         requires within { self.old.done ≤ length self.old.script }
         ensures same { IsSame self.old self.new }
         ensures at { (seen : Seen) → self.old.stopped ≡ false → IsAt (marginals_on curves.now) seen self.old → IsAt (marginals_on curves.now) seen self.new }

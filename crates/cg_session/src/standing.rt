@@ -1,7 +1,7 @@
 ghost use Rattle.std.specs.Prelude.{◌≡◌, ◌≢◌, ◌<◌, List, [], map, option_map, position, is_some, bytes_eq, vec_len, vec_capacity, IfOk, OnOk, OnErr, MatchOption};
 ghost use Rattle.cg_sharing.specs.Command as spec;
 ghost use Rattle.cg_sharing.specs.Versions.{State, head_of};
-ghost use Rattle.cg_sharing.specs.Course.{act_of, with_grid, grid_of, done_at, with_base, bases_after, answered};
+ghost use Rattle.cg_sharing.specs.Course.{act_of, with_grid, grid_of, done_at, with_base, bases_after, answered, IsFit};
 ghost use Rattle.cg_script.specs.Command.{command_in};
 ghost use Rattle.cg_book.specs.Plain as book;
 ghost use Rattle.cg_session.specs.Standing.{base_in, IsSpare};
@@ -95,7 +95,7 @@ pub(crate) fn spare_of(alloc: Global, command: &Command) -> Result<Option<Name>,
 }
 
 impl Standing {
-    ghost use Rattle.cg_session.specs.Standing.{marginals_on, number_of, place_in, HasText, IsReady};
+    ghost use Rattle.cg_session.specs.Standing.{marginals_on, number_of, place_in, HasText};
     ghost use Rattle.cg_session.specs.Transcript.{HasRoom};
 
     /// The event of a command, if it makes one here.
@@ -146,7 +146,7 @@ impl Standing {
         curves: &Curves,
         steps: &mut Steps<L>,
     ) -> Result<(), NoMemory>
-        requires ready { IsReady (command_in command.now) }
+        requires ready { IsFit (command_in command.now) }
         ensures ok { OnOk result ((state : State) → HasText state self.old.version
             → place_in self.new ≡ done_at (marginals_on curves.now) state line (command_in command.now) (place_in self.old)) }
         ensures err { OnErr result (place_in self.new ≡ place_in self.old) }

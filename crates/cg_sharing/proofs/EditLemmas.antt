@@ -8,23 +8,23 @@ use Rattle.cg_sharing.specs.Edit.{Edit, NodeKind, target_of, edited, wrong_kind,
 pub record IsAccepted (edit : Edit) (before after : Trees) : Type 0 where
   pub node : Tree
   pub only : named (target_of edit) before ≡ node ∷ []
-  pub right : wrong_kind edit node ≡ None
+  pub right : wrong_kind edit node before ≡ None
   pub fits : limit_passed after ≡ None
   pub changed : after ≡ edited edit before
 
-for_limit : (edit : Edit) (before after : Trees) (node : Tree) (limit : Option Limit) → named (target_of edit) before ≡ node ∷ [] → wrong_kind edit node ≡ None → limit_passed (edited edit before) ≡ limit → within limit (edited edit before) ≡ Ok after → IsAccepted edit before after
+for_limit : (edit : Edit) (before after : Trees) (node : Tree) (limit : Option Limit) → named (target_of edit) before ≡ node ∷ [] → wrong_kind edit node before ≡ None → limit_passed (edited edit before) ≡ limit → within limit (edited edit before) ≡ Ok after → IsAccepted edit before after
 for_limit edit before after node None only right fits is =
     let same : edited edit before ≡ after = cc in
     record { node = node; only = only; right = right; fits = subst (λ ts. limit_passed ts ≡ None) same fits; changed = sym same }
 for_limit edit before after node (Some limit) only right fits is = absurd (cc)
 
-for_kind : (edit : Edit) (before after : Trees) (node : Tree) (kind : Option NodeKind) → named (target_of edit) before ≡ node ∷ [] → wrong_kind edit node ≡ kind → checked kind (edited edit before) ≡ Ok after → IsAccepted edit before after
+for_kind : (edit : Edit) (before after : Trees) (node : Tree) (kind : Option NodeKind) → named (target_of edit) before ≡ node ∷ [] → wrong_kind edit node before ≡ kind → checked kind (edited edit before) ≡ Ok after → IsAccepted edit before after
 for_kind edit before after node None only right is = for_limit edit before after node (limit_passed (edited edit before)) only right refl is
 for_kind edit before after node (Some kind) only right is = absurd (cc)
 
 for_nodes : (edit : Edit) (before after : Trees) (nodes : List Tree) → named (target_of edit) before ≡ nodes → result_for nodes edit before ≡ Ok after → IsAccepted edit before after
 for_nodes edit before after [] only is = absurd (cc)
-for_nodes edit before after (node ∷ []) only is = for_kind edit before after node (wrong_kind edit node) only refl is
+for_nodes edit before after (node ∷ []) only is = for_kind edit before after node (wrong_kind edit node before) only refl is
 for_nodes edit before after (node ∷ next ∷ others) only is = absurd (cc)
 
 pub accepted : (edit : Edit) (before after : Trees) → result_of edit before ≡ Ok after → IsAccepted edit before after

@@ -5,3 +5,4 @@ pub mod CourseLemmas
 pub mod ReachLemmas
 pub mod InterleavingLemmas
 pub mod CourseCases
+pub mod CoverLemmas

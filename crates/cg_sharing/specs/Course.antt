@@ -5,6 +5,7 @@ use Rattle.cg_meaning.specs.Tree.{Name, Tree, Trees, datings_of, nodes_of_all, C
 use Rattle.cg_meaning.specs.Curve.{Curve}
 use Rattle.cg_meaning.specs.Scene.{Grid, Scene, scene_of}
 use Rattle.cg_meaning.specs.Cover.{CoverFault, first_fault}
+use Rattle.cg_num.specs.Year.{IsYear}
 use Rattle.cg_model.specs.Grid.{cells_from}
 use Rattle.cg_model.specs.Found.{found_in}
 use Rattle.cg_model.specs.Event.{number_at}
@@ -237,9 +238,11 @@ last_line true session = stopped_line session
 abbrev pub transcript_of : ℕ → Place → List ℕ
 transcript_of session place = place.text ++ last_line place.stopped session
 
--- a command's change is in order
+-- what a command brings is in order: the years of a grid, a change, and the name of an event to be printed
 abbrev pub IsFit : Command → Type 0
+IsFit (command.Grid older younger) = IsYear older × IsYear younger
 IsFit (command.Change edit) = IsInOrder edit
+IsFit (command.Print name) = name ≢ []
 IsFit other = Unit {0}
 
 abbrev pub AreFit : List Line → Type 0

@@ -3,7 +3,7 @@ use Rattle.std.specs.Prelude.{◌≡◌, ◌≢◌, ℕ, ◌<◌, nat_lt, nat_eq
 use Rattle.std.specs.List.{All}
 use Rattle.cg_meaning.specs.Tree.{Name, Trees, datings_of}
 use Rattle.cg_model.specs.Limits.{IsInRange}
-use Rattle.cg_sharing.specs.Edit.{Edit, Set, Add, EditFault, result_of}
+use Rattle.cg_sharing.specs.Edit.{Edit, Set, Add, InsertBefore, Drop, Rename, EditFault, result_of}
 use Rattle.cg_sharing.specs.Versions.{State, count_of, head_of, with_head, parent_of, chronology_of, with_version}
 
 -- what a session asks of the book, versions being named by their numbers
@@ -77,6 +77,9 @@ state_after state (entry ∷ entries) = state_after (after state entry) entries
 abbrev pub IsInOrder : Edit → Type 0
 IsInOrder (Set name dating) = (name ≢ []) × IsInRange dating
 IsInOrder (Add name node) = (name ≢ []) × All IsInRange (datings_of node)
+IsInOrder (InsertBefore name node) = (name ≢ []) × All IsInRange (datings_of node)
+IsInOrder (Drop name) = name ≢ []
+IsInOrder (Rename name new) = name ≢ []
 
 -- each version number of an act that is no question is known, and its change is in order
 abbrev pub May : State → Act → Type 0

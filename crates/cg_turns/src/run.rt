@@ -1,8 +1,8 @@
 ghost use Rattle.std.specs.Prelude.{◌≡◌, ◌≤◌, false, length, All, IfOk};
+ghost use Rattle.cg_sharing.specs.Course.{AreFit};
 ghost use Rattle.cg_sharing.specs.Versions.{start_of};
 ghost use Rattle.cg_sharing.specs.Journal.{IsLegal};
 ghost use Rattle.cg_session.specs.Standing.{marginals_on};
-ghost use Rattle.cg_session.specs.Session.{AreReady};
 ghost use Rattle.cg_turns.specs.Run.{HasCourses, IsInterleaving};
 
 use crate::sessions::Sessions;
@@ -40,7 +40,7 @@ pub fn run_in_turns<L: Ledger>(
     curves: &Curves,
     steps: &mut Steps<L>,
 ) -> Result<Run, NoMemory>
-    requires ready { All AreReady scripts.items }
+    requires ready { All AreFit scripts.items }
     requires few { length scripts.items ≤ 8 }
     ensures legal { IfOk result (λ run. IsLegal (start_of models) run.journal) }
     ensures courses { IfOk result (λ run. HasCourses (marginals_on curves.now) models scripts.items run) }

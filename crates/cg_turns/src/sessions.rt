@@ -3,9 +3,9 @@ ghost use Rattle.std.specs.List.{list_any};
 ghost use Rattle.cg_sharing.specs.Command.{Line};
 ghost use Rattle.cg_sharing.specs.Versions.{StartModel, start_of};
 ghost use Rattle.cg_sharing.specs.Journal.{IsLegal};
-ghost use Rattle.cg_sharing.specs.Course.{Marginals};
+ghost use Rattle.cg_sharing.specs.Course.{Marginals, AreFit};
 ghost use Rattle.cg_session.specs.Standing.{marginals_on};
-ghost use Rattle.cg_session.specs.Session.{script_of, AreReady};
+ghost use Rattle.cg_session.specs.Session.{script_of};
 ghost use Rattle.cg_turns.specs.Run.{written_in};
 ghost use Rattle.cg_turns.specs.Taking.{AreAt, is_stopped, transcript_in, CanGoOn, HaveTaken, HaveRunOut, IsOverAt, Advances};
 
@@ -30,7 +30,7 @@ pub(crate) struct Sessions {
 
 // Sessions of these scripts, numbered from 1, before their first commands.
 fn begin(alloc: Global, scripts: Vec<Script>) -> Result<Vec<Session>, NoMemory>
-    requires ready { All AreReady scripts.items }
+    requires ready { All AreFit scripts.items }
     requires few { length scripts.items ≤ 8 }
     ensures at { IfOk result (λ list. (marginals : Marginals) (models : List StartModel)
         → AreAt marginals record { start = start_of models; journal = [] } 1 list.items) }
@@ -52,7 +52,7 @@ impl Sessions {
         models: StartModels,
         scripts: Vec<Script>,
     ) -> Result<Sessions, NoMemory>
-        requires ready { All AreReady scripts.items }
+        requires ready { All AreFit scripts.items }
         requires few { length scripts.items ≤ 8 }
         ensures can { IfOk result (λ all. (marginals : Marginals) → CanGoOn marginals all) }
         ensures taken { IfOk result (λ all. (marginals : Marginals) → HaveTaken marginals models scripts.items [] all) }

@@ -1,5 +1,5 @@
 ghost use Rattle.std.specs.Prelude.{◌≡◌, ◌<◌, ◌≤◌, length, All, IfOk};
-ghost use Rattle.cg_session.specs.Session.{AreReady};
+ghost use Rattle.cg_sharing.specs.Course.{AreFit};
 
 use crate::{Run, run_in_turns};
 use cg_curve::Curves;
@@ -29,7 +29,7 @@ fn models(alloc: Global) -> Result<StartModels, Fail> {
 
 /// The two scripts.
 fn scripts(alloc: Global) -> Result<Vec<Script>, Fail>
-    ensures ready { IfOk result (λ scripts. All AreReady scripts.items) }
+    ensures ready { IfOk result (λ scripts. All AreFit scripts.items) }
     ensures few { IfOk result (λ scripts. length scripts.items ≤ 8) }
 {
     let mut scripts = Vec::new(alloc);

@@ -2,8 +2,14 @@ use super::{TWO_EVENTS, WORDS, open_sink, run_words};
 use crate::status::Status;
 use std::test::Fail;
 
+const MOVES: &str =
+    "open main\ngrid 2002 2000\nprint \"X\"\nadd \"s\" Boundary(\"e\");\nprint \"X\"\ndrop \"e\"\ninsert \"Y\" Boundary(\"e\");\nprint \"X\"\ninsert \"Z\" Boundary(\"c\");\ninsert \"p\" Boundary(\"c\");\nrename \"e\" \"end\"\ndrop \"e\"\ndrop \"end\"\nprint \"X\"\ninsert \"p\" Date(\"X\");\nprint \"X\"\n";
+
+const MOVED: &str =
+    "session 1\nat v0\ngrid 2002 2000\nmarginal \"X\" v0\n2002 53 BC 300000 300000\n2001 52 BC 400000 400000\n2000 51 BC 300000 300000\nmade v1\nmarginal \"X\" v1\n2002 53 BC 354838 354839\n2001 52 BC 381720 381721\n2000 51 BC 263440 263441\nmade v2\nmade v3\nmarginal \"X\" v3\n2002 53 BC 433333 433334\n2001 52 BC 383333 383334\n2000 51 BC 183333 183334\nrefused 9 wrong kind Phase\nrefused 10 wrong kind Phase\nmade v4\nrefused 12 no name\nmade v5\nmarginal \"X\" v5\n2002 53 BC 300000 300000\n2001 52 BC 400000 400000\n2000 51 BC 300000 300000\nmade v6\nrefused 16 ambiguous 2\nend 1\n";
+
 /// A model and a script, and the whole output.
-static TRANSCRIPTS: [(&str, &str, &str); 18] = [
+static TRANSCRIPTS: [(&str, &str, &str); 20] = [
     // Two events in order, a tie allowed: of six datings three have A in the oldest year.
     (
         TWO_EVENTS,
@@ -39,6 +45,18 @@ static TRANSCRIPTS: [(&str, &str, &str); 18] = [
         TWO_EVENTS,
         "open main\nadd \"s\" Date(\"C\");\ngrid 2001 2000\nprint \"C\"\nundo\nprint \"B\"\n",
         "session 1\nat v0\nmade v1\ngrid 2001 2000\nmarginal \"C\" v1\n2001 52 BC 250000 250000\n2000 51 BC 750000 750000\nat v0\nmarginal \"B\" v0\n2001 52 BC 333333 333334\n2000 51 BC 666666 666667\nend 1\n",
+    ),
+    // A node put before another: of four datings two have it at each year.
+    (
+        TWO_EVENTS,
+        "open main\ninsert \"B\" Date(\"M\");\ngrid 2001 2000\nprint \"M\"\n",
+        "session 1\nat v0\nmade v1\ngrid 2001 2000\nmarginal \"M\" v1\n2001 52 BC 500000 500000\n2000 51 BC 500000 500000\nend 1\n",
+    ),
+    // A Boundary that comes behind both events, moves between them, is refused in a Phase, and goes.
+    (
+        "Sequence(\"s\"){Boundary(\"b\");Date(\"X\");Date(\"Y\");};Phase(\"p\"){Date(\"Z\");};",
+        MOVES,
+        MOVED,
     ),
     // Members of a Phase are unordered.
     (

@@ -1,18 +1,10 @@
-use Rattle.std.proofs.Common.{◌≡◌, ◌+◌, true, ◌∙◌, map, sym, ap, Option, Some, None}
-use Rattle.std.specs.Prelude.{is_some, option_map}
-use Rattle.cg_meaning.specs.Tree as spec
+use Rattle.std.proofs.Common.{◌+◌, ◌∙◌, map, sym, ap}
+use Rattle.std.specs.Prelude.{option_map}
 use Rattle.cg_model.specs.Node.{tree_of, trees}
 use Rattle.cg_model.proofs.NodeLemmas.{trees_from, trees_from-next, trees_from-past, trees_of-all}
-use Rattle.cg_sharing.specs.Edit.{a_group, or_else, misplaced_in, misplaced_in_all}
-use Rattle.cg_edit.specs.Plain.{kind_in}
-use Rattle.cg_edit.specs.declared.fault.Kind.{Kind}
+use Rattle.cg_sharing.specs.Edit.{a_group, misplaced_in, misplaced_in_all}
+use Rattle.cg_edit.proofs.KindLemmas.{first_found}
 use Rattle.cg_edit.proofs.misplaced.+misplaced.Goals as goal
-
--- what is found first is what is found in all
-first_found : (found : Option Kind) (first second : Option spec.Kind) → is_some found ≡ true → option_map kind_in found ≡ option_map (λ k. a_group k) first → option_map kind_in found ≡ option_map (λ k. a_group k) (or_else first second)
-first_found None first second is same = absurd (cc)
-first_found (Some kind) None second is same = absurd (cc)
-first_found (Some kind) (Some parent) second is same = same
 
 pub misplaced_among-returns-then-is_some : goal.misplaced_among-returns-then-is_some
 misplaced_among-returns-then-is_some t c = λ kind group.

@@ -1,6 +1,6 @@
 use Rattle.cg_meaning.specs.Tree.{datings_of, root_of}
 use Rattle.cg_session.specs.Standing.{scene_in}
-use Rattle.cg_session.proofs.CoverLemmas.{all-covered}
+use Rattle.cg_sharing.proofs.CoverLemmas.{all-covered}
 use Rattle.cg_session.proofs.search.event_in.Goals as goal
 
 pub returns-in-Ok-clause-covered : goal.returns-in-Ok-clause-covered

@@ -1,0 +1,5 @@
+pub mod StateLemmas
+pub mod EventLemmas
+pub mod PrintLemmas
+pub mod PrintCases
+pub mod TextLemmas
