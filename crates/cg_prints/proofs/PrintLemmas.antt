@@ -17,6 +17,7 @@ use Rattle.cg_sharing.specs.Journal.{Answer, Entry, after, IsLegal}
 use Rattle.cg_sharing.specs.Texts.{Cause}
 use Rattle.cg_sharing.specs.Pieces.{Piece, Lines, Marginal, prints_of}
 use Rattle.cg_sharing.specs.Course.{Place, act_of, grid_or, grid_of, with_grid, event_in, event_piece, print_piece, done_at, settled, entrance_of, begin, answered, went_on, went, moved, walk, IsRunning, IsCourse, IsFit, AreFit}
+use Rattle.cg_sharing.proofs.JournalLemmas.{IsLegal-front}
 use Rattle.cg_edit.specs.Kept.{AreKept}
 use Rattle.cg_prints.specs.Laws.{IsFounded, PrintsAreFounded}
 use Rattle.cg_prints.proofs.StateLemmas.{HoldsModels, at_start, holds_after}
@@ -159,11 +160,6 @@ kept_running kept curve session start script entries place holds fit legal run =
     let P : Place → Type 0 = λ p. GoesOn curve p in
     (subst P (sym run.reached) (kept_walk kept curve session start (begin curve session start script) entries holds (kept_begin curve session start script holds fit) legal)).kept.printed
 
--- the first entries of a legal journal
-legal_front : (state : State) (xs ys : List Entry) → IsLegal state (xs ++ ys) → IsLegal state xs
-legal_front state [] ys legal = tt
-legal_front state (x ∷ xs) ys legal = (legal.0, legal.1, legal_front (after state x) xs ys legal.2)
-
 kept_course : AreKept → (curve : Curve) (session : ℕ) (start : State) (script : List Line) (entries : List Entry) (place : Place) → HoldsModels start → AreFit script → IsLegal start entries →
     IsCourse curve session start script entries place → AreFounded curve place.written
 kept_course kept curve session start script entries place holds fit legal (inl run) = kept_running kept curve session start script entries place holds fit legal run
@@ -171,7 +167,7 @@ kept_course kept curve session start script entries place holds fit legal (inr s
     let L : List Entry → Type 0 = λ es. IsLegal start es in
     let W : Place → Type 0 = λ p. AreFounded curve p.written in
     subst W (sym stop.reached) (kept_running kept curve session start (take stop.commands script) stop.earlier stop.last holds
-    (All-take (λ (line : Line). IsFit line.command) stop.commands script fit) (legal_front start stop.earlier stop.later (subst L stop.all legal)) stop.running)
+    (All-take (λ (line : Line). IsFit line.command) stop.commands script fit) (IsLegal-front start stop.earlier stop.later (subst L stop.all legal)) stop.running)
 
 pub founded : AreKept → PrintsAreFounded
 founded kept = λ curve session models script entries place all fit legal course.

@@ -1,6 +1,6 @@
 -- Many sessions that take turns over the same versions. chron's own.
-use Rattle.std.specs.Prelude.{◌≡◌, ◌⊎◌, ℕ, zero, suc, ◌+◌, true, false, List, [], ◌∷◌, ◌++◌, length, replicate, slice_get, slice_set, Option, Some, None}
-use Rattle.std.specs.List.{All}
+use Rattle.std.specs.Prelude.{◌≡◌, ◌⊎◌, ℕ, zero, suc, ◌+◌, ◌≤◌, Bool, true, false, List, [], ◌∷◌, ◌++◌, length, replicate, slice_get, slice_set, Option, Some, None}
+use Rattle.std.specs.List.{All, list_any}
 use Rattle.cg_meaning.specs.Curve.{Curve}
 use Rattle.cg_sharing.specs.Command.{Line}
 use Rattle.cg_sharing.specs.Versions.{State, StartModel, start_of}
@@ -98,6 +98,10 @@ pub record IsInterleaving (curve : Curve) (models : List StartModel) (scripts : 
   pub taken : AreTurns curve turns (begun curve models scripts) met
   pub run_out : AreTurns curve (last_turns 1 met.places) met end
 
+-- want of memory stopped one of the sessions at these places
+abbrev pub some_stopped : List Place → Bool
+some_stopped places = list_any (λ place. place.stopped) places
+
 -- the transcripts of sessions from this number on
 abbrev pub transcripts_of : Marginals → ℕ → List Place → List (List ℕ)
 transcripts_of marginals session [] = []
@@ -117,3 +121,19 @@ EachRunsToItsEnd =
     (curve : Curve) (models : List StartModel) (scripts : List (List Line)) (turns : List ℕ) → All AreFit scripts →
     let end = interleaving curve models scripts turns in
     IsLegal (start_of models) end.journal × AreWhole curve 1 (start_of models) scripts end.journal end.places
+
+-- where want of memory stopped no session, the turns decide all
+abbrev pub TurnsDecide : Type 0
+TurnsDecide =
+    (curve : Curve) (models : List StartModel) (scripts : List (List Line)) (turns : List ℕ) (end : World) →
+    IsInterleaving curve models scripts turns end → some_stopped end.places ≡ false → end ≡ interleaving curve models scripts turns
+
+-- an entry is of one of so many sessions
+abbrev pub IsOfSession : ℕ → Entry → Type 0
+IsOfSession count entry = (1 ≤ entry.seat) × (entry.seat ≤ count)
+
+-- whatever the turns are and whichever sessions are stopped, each entry is of one of the sessions
+abbrev pub EntriesAreOfSessions : Type 0
+EntriesAreOfSessions =
+    (curve : Curve) (models : List StartModel) (scripts : List (List Line)) (turns : List ℕ) (end : World) →
+    IsInterleaving curve models scripts turns end → All (IsOfSession (length scripts)) end.journal
