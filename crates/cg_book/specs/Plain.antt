@@ -1,11 +1,12 @@
 -- Events, replies and entries in the words of the definitions.
-use Rattle.std.specs.Prelude.{◌≡◌, ℕ, List, [], ◌∷◌, ◌++◌, Option, Some, None, option_map}
+use Rattle.std.specs.Prelude.{◌≡◌, ◌≢◌, ℕ, List, [], ◌∷◌, ◌++◌, Option, Some, None, option_map}
 use Rattle.std.specs.Arc.{arc_value}
 use Rattle.cg_sharing.specs.Edit as edits
 use Rattle.cg_sharing.specs.Versions.{State, chronology_of}
 use Rattle.cg_sharing.specs.Journal as meaning
-use Rattle.cg_sharing.specs.Journal.{state_after, answer_of}
+use Rattle.cg_sharing.specs.Journal.{state_after, answer_of, changed_by}
 use Rattle.cg_edit.specs.Plain.{edit_in, fault_in}
+use Rattle.cg_edit.specs.declared.fault.EditFault.TheVariants.{NoMemory}
 use Rattle.cg_book.specs.declared.event.Event.{Event}
 use Rattle.cg_book.specs.declared.event.Event.TheVariants as event
 use Rattle.cg_book.specs.declared.event.Reply.{Reply}
@@ -81,14 +82,27 @@ Steps old seat a None new = new ≡ old
 Steps old seat a (Some x) new =
     (x ≡ answer_of (state_of old) a) × (new ≡ logged old record { seat = seat; act = a; answer = x })
 
+-- One step of the versions: want of memory leaves them as they were. Any other answer is the one that they give, and
+-- they are as it leaves them.
+abbrev pub Replies : State → meaning.Act → Option meaning.Answer → State → Type 0
+Replies old a None new = new ≡ old
+Replies old a (Some x) new = (x ≡ answer_of old a) × (new ≡ changed_by a x old)
+
 -- a tree in a reply is that of the version beside it
+abbrev pub HasTree : State → Reply → Type 0
+HasTree state (reply.At version tree) = arc_value tree ≡ chronology_of state version
+HasTree state (reply.Made version tree) = arc_value tree ≡ chronology_of state version
+HasTree state (reply.Committed version) = Unit {0}
+HasTree state reply.NoModel = Unit {0}
+HasTree state (reply.NoVersion count) = Unit {0}
+HasTree state reply.NoParent = Unit {0}
+HasTree state (reply.Refused fault) = Unit {0}
+HasTree state (reply.Moved head) = Unit {0}
+HasTree state reply.NoMemory = Unit {0}
+
 abbrev pub Carries : Seen → Reply → Type 0
-Carries book (reply.At version tree) = arc_value tree ≡ chronology_of (state_of book) version
-Carries book (reply.Made version tree) = arc_value tree ≡ chronology_of (state_of book) version
-Carries book (reply.Committed version) = Unit {0}
-Carries book reply.NoModel = Unit {0}
-Carries book (reply.NoVersion count) = Unit {0}
-Carries book reply.NoParent = Unit {0}
-Carries book (reply.Refused fault) = Unit {0}
-Carries book (reply.Moved head) = Unit {0}
-Carries book reply.NoMemory = Unit {0}
+Carries book given = HasTree (state_of book) given
+
+-- a refused change is never told as want of memory
+abbrev pub IsTold : Reply → Type 0
+IsTold given = given ≢ reply.Refused NoMemory

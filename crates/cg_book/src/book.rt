@@ -1,15 +1,12 @@
-ghost use Rattle.std.specs.Prelude.{◌≡◌, ◌<◌, ◌≤◌, ◌++◌, ◌∷◌, [], IfOk, vec_len, vec_capacity};
+ghost use Rattle.std.specs.Prelude.{◌≡◌, [], IfOk};
 ghost use Rattle.cg_sharing.specs.Versions.{start_of, count_of};
-ghost use Rattle.cg_sharing.specs.Journal.{May, IsLegal, Head, Take, Undo, Change, Commit};
-ghost use Rattle.cg_edit.specs.Plain.{edit_in};
-ghost use Rattle.cg_book.specs.Plain.{state_of, asked, answered, Steps, Carries, entry_in};
+ghost use Rattle.cg_sharing.specs.Journal.{May, IsLegal};
+ghost use Rattle.cg_book.specs.Plain.{state_of, asked, answered, Steps, Carries, IsTold};
 
 use crate::event::{Event, Reply};
 use crate::journal::{Act, Answer, Entry, Journal};
-use cg_edit::{Edit, EditFault};
-use cg_model::Name;
 use cg_num::NoMemory;
-use cg_versions::{CommitFault, StartModels, TakeFault, Versions};
+use cg_versions::{StartModels, Versions};
 use std::alloc::Global;
 use std::marker::Model;
 use std::snapshot::Snapshot;
@@ -61,14 +58,18 @@ impl Book {
         requires { May (state_of self.old) (asked event) }
         ensures step { Steps self.old seat (asked event) (answered result) self.new }
         ensures carries { Carries self.new result }
+        ensures told { IsTold result }
     {
-        match event {
-            Event::Head(name) => self.head(seat, name),
-            Event::Take(version) => self.take(seat, version),
-            Event::Undo(version) => self.undo(seat, version),
-            Event::Change(version, edit) => self.change(alloc, seat, version, edit),
-            Event::Commit(name, base, version) => self.commit(seat, name, base, version),
-        }
+        let Ok(()) = self.journal.reserve(1) else {
+            return Reply::NoMemory;
+        };
+        let reply = event.reply(alloc, &mut self.versions);
+        let Some(answer) = Answer::of(&reply) else {
+            return reply;
+        };
+        let act = Act::of(event);
+        self.journal.push_reserved(Entry { seat, act, answer });
+        reply
     }
 
     /// How many versions there are. Takes no memory.
@@ -92,170 +93,4 @@ impl Book {
     {
         Journal::of(self.journal)
     }
-
-    fn head(&mut self, seat: u32, name: Name) -> Reply
-        ensures step { Steps self.old seat (Head name) (answered result) self.new }
-        ensures carries { Carries self.new result }
-    {
-        let Ok(()) = self.journal.reserve(1) else {
-            return Reply::NoMemory;
-        };
-        match self.versions.head_of(&name) {
-            Ok(Some((version, tree))) => {
-                note(
-                    &mut self.journal,
-                    seat,
-                    Act::Head(name),
-                    Answer::At(version),
-                );
-                Reply::At(version, tree)
-            }
-            Ok(None) => {
-                note(&mut self.journal, seat, Act::Head(name), Answer::NoModel);
-                Reply::NoModel
-            }
-            Err(NoMemory) => Reply::NoMemory,
-        }
-    }
-
-    fn take(&mut self, seat: u32, version: u32) -> Reply
-        ensures step { Steps self.old seat (Take version) (answered result) self.new }
-        ensures carries { Carries self.new result }
-    {
-        let Ok(()) = self.journal.reserve(1) else {
-            return Reply::NoMemory;
-        };
-        match self.versions.take(version) {
-            Ok(tree) => {
-                note(
-                    &mut self.journal,
-                    seat,
-                    Act::Take(version),
-                    Answer::At(version),
-                );
-                Reply::At(version, tree)
-            }
-            Err(TakeFault::NoVersion(count)) => {
-                note(
-                    &mut self.journal,
-                    seat,
-                    Act::Take(version),
-                    Answer::NoVersion(count),
-                );
-                Reply::NoVersion(count)
-            }
-            Err(TakeFault::NoMemory) => Reply::NoMemory,
-        }
-    }
-
-    fn undo(&mut self, seat: u32, version: u32) -> Reply
-        requires { May (state_of self.old) (Undo version) }
-        ensures step { Steps self.old seat (Undo version) (answered result) self.new }
-        ensures carries { Carries self.new result }
-    {
-        let Ok(()) = self.journal.reserve(1) else {
-            return Reply::NoMemory;
-        };
-        match self.versions.back(version) {
-            Ok(Some((parent, tree))) => {
-                note(
-                    &mut self.journal,
-                    seat,
-                    Act::Undo(version),
-                    Answer::At(parent),
-                );
-                Reply::At(parent, tree)
-            }
-            Ok(None) => {
-                note(
-                    &mut self.journal,
-                    seat,
-                    Act::Undo(version),
-                    Answer::NoParent,
-                );
-                Reply::NoParent
-            }
-            Err(NoMemory) => Reply::NoMemory,
-        }
-    }
-
-    fn change(&mut self, alloc: Global, seat: u32, version: u32, edit: Edit) -> Reply
-        requires { May (state_of self.old) (Change version (edit_in edit)) }
-        ensures step { Steps self.old seat (Change version (edit_in edit)) (answered result) self.new }
-        ensures carries { Carries self.new result }
-    {
-        let Ok(()) = self.journal.reserve(1) else {
-            return Reply::NoMemory;
-        };
-        match self.versions.change(alloc, version, &edit) {
-            Ok((made, tree)) => {
-                note(
-                    &mut self.journal,
-                    seat,
-                    Act::Change(version, edit),
-                    Answer::Made(made),
-                );
-                Reply::Made(made, tree)
-            }
-            Err(fault) => {
-                if fault == EditFault::NoMemory {
-                    return Reply::NoMemory;
-                }
-                note(
-                    &mut self.journal,
-                    seat,
-                    Act::Change(version, edit),
-                    Answer::Refused(fault),
-                );
-                Reply::Refused(fault)
-            }
-        }
-    }
-
-    fn commit(&mut self, seat: u32, name: Name, base: Option<u32>, version: u32) -> Reply
-        requires { May (state_of self.old) (Commit name base version) }
-        ensures step { Steps self.old seat (Commit name base version) (answered result) self.new }
-        ensures carries { Carries self.new result }
-    {
-        let Ok(()) = self.journal.reserve(1) else {
-            return Reply::NoMemory;
-        };
-        match self.versions.commit(&name, base, version) {
-            Ok(()) => {
-                note(
-                    &mut self.journal,
-                    seat,
-                    Act::Commit(name, base, version),
-                    Answer::Committed(version),
-                );
-                Reply::Committed(version)
-            }
-            Err(CommitFault::NoModel) => {
-                note(
-                    &mut self.journal,
-                    seat,
-                    Act::Commit(name, base, version),
-                    Answer::NoModel,
-                );
-                Reply::NoModel
-            }
-            Err(CommitFault::Moved(head)) => {
-                note(
-                    &mut self.journal,
-                    seat,
-                    Act::Commit(name, base, version),
-                    Answer::Moved(head),
-                );
-                Reply::Moved(head)
-            }
-        }
-    }
-}
-
-// Appends an entry for which there is room.
-fn note(journal: &mut Vec<Entry>, seat: u32, act: Act, answer: Answer)
-    requires { vec_len journal.old < vec_capacity journal.old }
-    ensures { journal.new.items ≡ journal.old.items ++ record { seat = seat; act = act; answer = answer } ∷ [] }
-{
-    journal.push_reserved(Entry { seat, act, answer });
 }

@@ -1,6 +1,7 @@
-ghost use Rattle.std.specs.Prelude.{◌≡◌, [], ◌∷◌, ◌++◌, map, OnOk, OnErr};
-ghost use Rattle.cg_book.specs.Plain.{entry_in};
+ghost use Rattle.std.specs.Prelude.{◌≡◌, [], ◌∷◌, ◌++◌, map, option_map, OnOk, OnErr};
+ghost use Rattle.cg_book.specs.Plain.{act_in, answer_in, asked, answered, entry_in};
 
+use crate::event::{Event, Reply};
 use cg_edit::{Edit, EditFault};
 use cg_model::Name;
 use cg_num::NoMemory;
@@ -22,6 +23,21 @@ pub enum Act {
     Commit(Name, Option<u32>, u32),
 }
 
+impl Act {
+    // what an event asks
+    pub(crate) fn of(event: Event) -> Act
+        ensures { act_in result ≡ asked event }
+    {
+        match event {
+            Event::Head(name) => Act::Head(name),
+            Event::Take(version) => Act::Take(version),
+            Event::Undo(version) => Act::Undo(version),
+            Event::Change(version, edit) => Act::Change(version, edit),
+            Event::Commit(name, base, version) => Act::Commit(name, base, version),
+        }
+    }
+}
+
 /// A reply in plain form: versions are named by their numbers.
 #[derive(Clone, Copy, Debug, PartialEq, Eq)]
 pub enum Answer {
@@ -41,6 +57,25 @@ pub enum Answer {
     Refused(EditFault),
     /// The name stands for this version, which isn't the base.
     Moved(u32),
+}
+
+impl Answer {
+    // the answer of a reply; none for want of memory
+    pub(crate) fn of(reply: &Reply) -> Option<Answer>
+        ensures { option_map answer_in result ≡ answered reply.now }
+    {
+        match reply {
+            Reply::At(version, _) => Some(Answer::At(*version)),
+            Reply::Made(version, _) => Some(Answer::Made(*version)),
+            Reply::Committed(version) => Some(Answer::Committed(*version)),
+            Reply::NoModel => Some(Answer::NoModel),
+            Reply::NoVersion(count) => Some(Answer::NoVersion(*count)),
+            Reply::NoParent => Some(Answer::NoParent),
+            Reply::Refused(EditFault::NoMemory) | Reply::NoMemory => None,
+            Reply::Refused(fault) => Some(Answer::Refused(*fault)),
+            Reply::Moved(head) => Some(Answer::Moved(*head)),
+        }
+    }
 }
 
 /// What one session asked, and what the book answered. Seats are named by their numbers.

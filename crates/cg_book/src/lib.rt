@@ -7,8 +7,7 @@
 mod book;
 mod event;
 mod journal;
-#[cfg(test)]
-mod tests;
+mod reply;
 
 pub use book::Book;
 pub use event::{Event, Reply};
