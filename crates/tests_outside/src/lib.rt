@@ -1,6 +1,10 @@
-//! Tests of shelf and sink by their public calls alone.
+//! Tests of shelf and sink, of numbers and of curves, by their public calls alone.
 #![tactic(auto)]
 
+#[cfg(test)]
+mod curve;
+#[cfg(test)]
+mod numbers;
 #[cfg(test)]
 mod shelf;
 #[cfg(test)]
