@@ -11,8 +11,6 @@ mod file;
 mod laws;
 mod lines;
 mod row;
-#[cfg(test)]
-mod tests;
 
 pub use curve::{At, Curve};
 pub use curves::Curves;

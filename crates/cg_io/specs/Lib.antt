@@ -5,4 +5,3 @@ pub mod MemShelf
 pub mod MemSink
 pub mod Shelf
 pub mod Sink
-pub mod StreamSink

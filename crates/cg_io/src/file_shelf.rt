@@ -1,54 +1,52 @@
-//! Real files: nothing is told of what they hold.
+//! A shelf of files that are opened by their paths, as real files are.
 
 ghost use Rattle.std.specs.Prelude.{◌≡◌, ◌≤◌, ◌+◌, length};
 ghost use Rattle.std.specs.Io.{StartsWith};
 ghost use Rattle.cg_io.specs.FileShelf.{TakesAtMost, AppendsRest};
 ghost use Rattle.cg_io.specs.Shelf.{Appends};
 
+use crate::disk::{Disk, Open};
 use crate::shelf::{ReadEnd, Shelf, ShelfFault, faults_after};
-use std::fs;
 use std::io::Read;
-use std::marker::Model;
 use std::rt::Files;
-
-#[cfg(test)]
-mod tests;
 
 /// How many bytes are read from a file at once.
 const PART: usize = 4096;
 
-/// Files by their paths. It tells nothing of what they hold.
+/// Files by their paths. As a shelf it tells nothing of what they hold.
 #[derive(Drop)]
-pub struct FileShelf<'a, R: Files> {
-    rt: &'a R,
+pub struct FileShelf<O: Open + Drop> {
+    files: O,
     faults: u64,
 }
 
-impl<'a, R: Files> Model for FileShelf<'a, R> {
-    ghost use Rattle.std.specs.Prelude.{ℕ};
-
-    ghost Value = { ℕ };
-
-    ghost view = { λ s. s.faults };
-}
-
-impl<'a, R: Files> FileShelf<'a, R> {
-    /// A shelf whose reads have not failed yet. Takes no memory.
-    pub fn new(rt: &'a R) -> FileShelf<'a, R>
-        ensures { result ≡ 0 }
+impl<'a, R: Files> FileShelf<Disk<'a, R>> {
+    /// A shelf of the real files, whose reads have not failed yet. Takes no memory.
+    pub fn new(rt: &'a R) -> FileShelf<Disk<'a, R>>
+        ensures { result.faults ≡ 0 }
     {
-        FileShelf { rt, faults: 0 }
+        FileShelf::over(Disk::new(rt))
     }
 }
 
-impl<R: Files> Shelf for FileShelf<'_, R> {
+impl<O: Open + Drop> FileShelf<O> {
+    /// A shelf of the files that are opened so, whose reads have not failed yet. Takes no memory.
+    pub fn over(files: O) -> FileShelf<O>
+        ensures { result ≡ record { files = files; faults = 0 } }
+    {
+        FileShelf { files, faults: 0 }
+    }
+}
+
+impl<O: Open + Drop> Shelf for FileShelf<O> {
     ghost use Rattle.std.specs.Prelude.{◌≡◌, ◌≤◌, None};
     ghost use Rattle.cg_io.specs.Causes.{Rose};
+    ghost use Rattle.cg_io.specs.FileShelf.{AppendsRest};
     ghost use Rattle.cg_io.specs.Shelf.{Appends, faults_counted};
 
     ghost told = { λ _. None };
 
-    ghost faults = { λ s. s };
+    ghost faults = { λ s. s.faults };
 
     fn faults(&self) -> u64 {
         self.faults
@@ -56,26 +54,30 @@ impl<R: Files> Shelf for FileShelf<'_, R> {
 
     fn read(&mut self, name: &str, into: &mut Vec<u8>, limit: usize) -> Result<ReadEnd, ShelfFault>
         ensures appends { Appends limit into.old.items into.new.items result }
-        ensures later { self.old ≤ self.new }
-        ensures cause { result ≡ Err ShelfFault.Failed → Rose self.old self.new }
-        ensures faults { self.new ≡ faults_counted self.old result }
+        ensures later { self.old.faults ≤ self.new.faults }
+        ensures cause { result ≡ Err ShelfFault.Failed → Rose self.old.faults self.new.faults }
+        ensures faults { self.new.faults ≡ faults_counted self.old.faults result }
+        // The answer is for this very name and limit.
+        ensures rest { AppendsRest (O.told self.old.files name.now) limit
+            into.old.items into.new.items result }
     {
-        let answer = read_file(self.rt, name, into, limit);
+        let answer = read_file(&self.files, name, into, limit);
         self.faults = faults_after(self.faults, answer);
         answer
     }
 }
 
 /// Appends the bytes of a file, where these are at most `limit` bytes.
-fn read_file<R: Files>(
-    rt: &R,
+fn read_file<O: Open>(
+    files: &O,
     name: &str,
     into: &mut Vec<u8>,
     limit: usize,
 ) -> Result<ReadEnd, ShelfFault>
-    ensures { Appends limit into.old.items into.new.items result }
+    ensures appends { Appends limit into.old.items into.new.items result }
+    ensures rest { AppendsRest (O.told files.now name.now) limit into.old.items into.new.items result }
 {
-    let mut file = fs::open(rt, name)?;
+    let mut file = files.open(name)?;
     append_rest(&mut file, into, limit)
 }
 

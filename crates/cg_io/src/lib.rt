@@ -4,6 +4,7 @@
 #![tactic(auto)]
 
 mod calls;
+mod disk;
 mod file_shelf;
 mod mem_shelf;
 mod mem_sink;
@@ -11,6 +12,7 @@ mod shelf;
 mod sink;
 mod stream_sink;
 
+pub use disk::{Disk, Open};
 pub use file_shelf::FileShelf;
 pub use mem_shelf::MemShelf;
 pub use mem_sink::{MemSink, ROOM, SinkNoMemory};

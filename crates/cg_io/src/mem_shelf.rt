@@ -8,9 +8,6 @@ use std::alloc::Global;
 use std::collections::BTreeMap;
 use std::marker::Model;
 
-#[cfg(test)]
-mod tests;
-
 /// Files in memory, which tells them. Reads are counted from 1, and some may be told to fail.
 #[derive(Drop)]
 pub struct MemShelf {

@@ -7,9 +7,6 @@ use crate::sink::{Sink, SinkFault};
 use std::alloc::{AllocError, Global};
 use std::marker::Model;
 
-#[cfg(test)]
-mod tests;
-
 /// How many bytes a sink in memory holds once it has its room: 16 MiB.
 pub const ROOM: usize = 16 * 1024 * 1024;
 
@@ -103,7 +100,8 @@ impl MemSink {
 }
 
 impl Sink for MemSink {
-    ghost use Rattle.std.specs.Prelude.{◌<◌, ◌≤◌, Some, length, IfOk};
+    ghost use Rattle.std.specs.Prelude.{◌≡◌, ◌<◌, ◌≤◌, Some, length, IfOk, is_ok, if◌then◌else◌};
+    ghost use Rattle.cg_io.specs.Causes.{one_more};
     ghost use Rattle.cg_io.specs.MemSink.{Writes};
 
     ghost taken = { λ s. Some s.taken };
@@ -118,6 +116,8 @@ impl Sink for MemSink {
         requires { 0 < length piece.now }
         ensures some { IfOk result (λ n. (0 < n) × (n ≤ length piece.now)) }
         ensures later { self.old.faults ≤ self.new.faults }
+        ensures counted { self.new.faults ≡
+            (if is_ok result then self.old.faults else one_more self.old.faults) }
         ensures exact { Writes self.old self.new piece.now result }
     {
         let fails = self.calls.count();

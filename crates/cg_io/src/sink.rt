@@ -1,7 +1,7 @@
 //! Where bytes are written to.
 
-ghost use Rattle.std.specs.Prelude.{◌≡◌, ◌≤◌, ◌<◌, ◌↔◌, ℕ, Option, List, length, take, IfOk, OnErr, IsTrue};
-ghost use Rattle.cg_io.specs.Causes.{Rose};
+ghost use Rattle.std.specs.Prelude.{◌≡◌, ◌≤◌, ◌<◌, ◌↔◌, ℕ, Option, List, length, take, IfOk, OnErr, IsTrue, is_ok, if◌then◌else◌};
+ghost use Rattle.cg_io.specs.Causes.{one_more, Rose};
 ghost use Rattle.cg_io.specs.Sink.{Takes};
 
 /// A sink could not take any byte of a piece.
@@ -22,14 +22,15 @@ pub trait Sink {
 
     /// Takes bytes from the front of a piece, at least one, and returns how many.
     ///
-    /// A fault comes only where the count of faults rose in this call, and then nothing was taken.
+    /// At a fault nothing was taken, and the count of faults rose by this one. Else it is as it was.
     fn write(&mut self, piece: &[u8]) -> Result<usize, SinkFault>
         requires { 0 < length piece.now }
         ensures some { IfOk result (λ n. (0 < n) × (n ≤ length piece.now)) }
         ensures taken { IfOk result (λ n. Takes (taken self.old) (taken self.new) (take n piece.now)) }
         ensures err { OnErr result (taken self.new ≡ taken self.old) }
         ensures later { faults self.old ≤ faults self.new }
-        ensures cause { OnErr result (Rose (faults self.old) (faults self.new)) };
+        ensures counted { faults self.new ≡
+            (if is_ok result then faults self.old else one_more (faults self.old)) };
 }
 
 /// How many bytes of a text were taken, and whether a write failed before the rest.
@@ -46,6 +47,9 @@ pub fn write_whole<K: Sink>(sink: &mut K, text: &[u8]) -> Written
     ensures taken { Takes (K.taken sink.old) (K.taken sink.new) (take result.taken text.now) }
     ensures later { K.faults sink.old ≤ K.faults sink.new }
     ensures cause { IsTrue result.failed → Rose (K.faults sink.old) (K.faults sink.new) }
+    // Nothing is written after a write that failed.
+    ensures counted { K.faults sink.new ≡
+        (if result.failed then one_more (K.faults sink.old) else K.faults sink.old) }
 {
     let mut taken = 0;
     while taken < text.len() {

@@ -4,10 +4,6 @@ ghost use Rattle.std.specs.Prelude.{◌≡◌};
 
 use crate::sink::{Sink, SinkFault};
 use std::io::Write;
-use std::marker::Model;
-
-#[cfg(test)]
-mod tests;
 
 /// Writes to a stream. As a sink it tells nothing of what was taken.
 ///
@@ -16,16 +12,6 @@ mod tests;
 pub struct StreamSink<W: Write + Drop> {
     stream: W,
     faults: u64,
-}
-
-impl<W: Write + Drop> Model for StreamSink<W> {
-    ghost use Rattle.cg_io.specs.StreamSink.{StreamState, stream_code};
-
-    ghost Value = { StreamState W };
-
-    ghost coded = { stream_code W.code };
-
-    ghost view = { λ s. record { stream = s.stream; faults = s.faults } };
 }
 
 impl<W: Write + Drop> StreamSink<W> {
@@ -54,7 +40,7 @@ impl<W: Write + Drop> Sink for StreamSink<W> {
         requires { 0 < length piece.now }
         ensures some { IfOk result (λ n. (0 < n) × (n ≤ length piece.now)) }
         ensures later { self.old.faults ≤ self.new.faults }
-        ensures faults { self.new.faults ≡
+        ensures counted { self.new.faults ≡
             (if is_ok result then self.old.faults else one_more self.old.faults) }
         // What a stream tells that it holds grew by what was taken.
         ensures stream { WriteAppends (W.contents self.old.stream) (W.contents self.new.stream)

@@ -7,8 +7,6 @@ mod decimal;
 mod label;
 mod no_memory;
 mod reading;
-#[cfg(test)]
-mod tests;
 mod writing;
 mod year;
 

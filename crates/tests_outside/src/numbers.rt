@@ -1,4 +1,6 @@
-use crate::*;
+//! Years and decimal numbers, and their texts.
+
+use cg_num::{Decimal, NumFault, Year, read_decimal, write_decimal, write_label};
 use std::alloc::Global;
 use std::test::Fail;
 
