@@ -127,8 +127,10 @@ impl Standing {
 
     /// Makes room for an answer. All else stays.
     pub fn make_room(&mut self) -> Result<(), NoMemory>
-        ensures place { (place : Place) → Shows self.old place → Shows self.new place }
+        ensures text { self.new.transcript.bytes.items ≡ self.old.transcript.bytes.items }
         ensures version { self.new.version ≡ self.old.version }
+        ensures grid { self.new.grid ≡ self.old.grid }
+        ensures bases { self.new.bases.items ≡ self.old.bases.items }
         ensures line { OnOk result (HasRoom self.new.transcript 64) }
         ensures base { OnOk result (vec_len self.new.bases < vec_capacity self.new.bases) }
     {
