@@ -16,7 +16,5 @@ mod quotient;
 mod root;
 mod share;
 mod sum;
-#[cfg(test)]
-mod tests;
 
 pub use enclosure::Enc;

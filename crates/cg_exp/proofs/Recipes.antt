@@ -14,7 +14,7 @@ use Rattle.cg_exp.proofs.Starting.{IsStart, start-IsStart, Starts, start-Starts,
 use Rattle.cg_exp.proofs.Squarings.{IsFull, squared-IsFull, squared-encloses, squared-loss, squared-exponent, near-IsExponent, loss_more}
 
 -- p / q is in the range of the call
-pub record IsInRange (p q : ℕ) : Type 0 where
+pub record IsArgument (p q : ℕ) : Type 0 where
   pub some : 0 < q
   pub reach : p ≤ q * 2 ^ 28
 
@@ -26,7 +26,7 @@ reduced-IsStart p q h low high x u some small el eh ex eu =
     let s = small_reduced p q h some small in
     rw (ex, eu) (start-IsStart p (q * 2 ^ h) low high s.0 s.1 (is_reduced p q h low high some small el eh))
 
-starts : (p q h : ℕ) → IsInRange p q → IsHalving p q h → Starts p (q * 2 ^ h) (start (reduced_below p q h) (reduced_above p q h))
+starts : (p q h : ℕ) → IsArgument p q → IsHalving p q h → Starts p (q * 2 ^ h) (start (reduced_below p q h) (reduced_above p q h))
 starts p q h r v =
     let s = small_reduced p q h r.some v.small in
     start-Starts p (q * 2 ^ h) (reduced_below p q h) (reduced_above p q h) s.0 s.1 (reduced-IsReduced p q h r.some v.small)
@@ -62,7 +62,7 @@ pub record IsExpNeg (p q h : ℕ) (r : Enclosure) : Type 0 where
   pub few : h ≤ 30
   pub exponent : IsExponent (2 ^ 31) r.exp
 
-halved-IsExpNeg : (p q h : ℕ) → IsInRange p q → IsHalving p q h → IsExpNeg p q h (halved p q h)
+halved-IsExpNeg : (p q h : ℕ) → IsArgument p q → IsHalving p q h → IsExpNeg p q h (halved p q h)
 unfolding halved
 halved-IsExpNeg p q h r v =
     let s = starts p q h r v in
@@ -84,7 +84,7 @@ halved-IsExpNeg p q h r v =
       exponent = near-IsExponent (squared a h).exp (2 ^ h) (2 ^ 31) (omega (arith, pow_le h 30 few)) (squared-exponent a h s.full s.exponent);
     }
 
-pub exp_neg-IsExpNeg : (p q h : ℕ) → IsInRange p q → IsHalving p q h → IsExpNeg p q h (exp_neg_of p q)
+pub exp_neg-IsExpNeg : (p q h : ℕ) → IsArgument p q → IsHalving p q h → IsExpNeg p q h (exp_neg_of p q)
 exp_neg-IsExpNeg p q h r v = rw (halvings-is p q h v (halving_few p q h r.reach v)) (halved-IsExpNeg p q h r v)
 
 -- what doesn't speak of h
@@ -98,7 +98,7 @@ pub record IsBounded (r : Enclosure) : Type 0 where
 little_loss : (lo hi : ℕ) → 2 ^ 62 ≤ hi → (hi - lo) * 2 ^ 62 ≤ (2 ^ 34 - 1) * hi → 1 ≤ lo
 little_loss lo hi full loss = omega arith
 
-pub exp_neg-IsBounded : (p q : ℕ) → IsInRange p q → IsBounded (exp_neg_of p q)
+pub exp_neg-IsBounded : (p q : ℕ) → IsArgument p q → IsBounded (exp_neg_of p q)
 exp_neg-IsBounded p q r =
     let h : ℕ = halvings p q in
     let e = exp_neg-IsExpNeg p q h r (halvings-IsHalving p q r.reach) in

@@ -16,8 +16,6 @@ ghost use Rattle.cg_meaning.specs.Taylor.{IsHalving, bound_top, bound_bottom};
 mod power;
 mod reduction;
 mod series;
-#[cfg(test)]
-mod tests;
 
 use cg_enc::Enc;
 

@@ -10,7 +10,7 @@ use Rattle.cg_meaning.specs.Weights.{Distance, IsWeight, IsWeightAt}
 use Rattle.cg_meaning.specs.Sums.{sum_below}
 use Rattle.cg_exp.specs.Exponential.{halvings}
 use Rattle.cg_exp.proofs.Halving.{halvings-IsHalving}
-use Rattle.cg_exp.proofs.Recipes.{IsInRange, exp_neg-IsExpNeg}
+use Rattle.cg_exp.proofs.Recipes.{IsArgument, exp_neg-IsExpNeg}
 use Rattle.cg_like.proofs.LikelihoodLemmas.{bottom-positive}
 use Rattle.cg_like.specs.Distance.{IsMeasured}
 
@@ -115,7 +115,7 @@ unfolding weight_for enough
 weight_for-IsWeight m d measured great =
     let h : ℕ = halvings d.p d.q in
     let halved = halvings-IsHalving d.p d.q measured.reach in
-    let r : IsInRange d.p d.q = record { some = measured.some; reach = measured.reach } in
+    let r : IsArgument d.p d.q = record { some = measured.some; reach = measured.reach } in
     let e = exp_neg-IsExpNeg d.p d.q h r halved in
     let a : ℕ = bound_top d.p d.q h 17 in
     let b : ℕ = bound_bottom d.q h 17 in

@@ -18,7 +18,7 @@ use Rattle.cg_meaning.specs.Weights.{Distance, IsWeight}
 use Rattle.cg_exp.specs.Exponential.{halvings, reduced_below, reduced_above, start, squared, halved, exp_neg_of}
 use Rattle.cg_exp.proofs.Halving.{halving_few, halvings-IsHalving}
 use Rattle.cg_exp.proofs.Reductions.{reduced-IsReduced}
-use Rattle.cg_exp.proofs.Recipes.{IsInRange, exp_neg-IsExpNeg}
+use Rattle.cg_exp.proofs.Recipes.{IsArgument, exp_neg-IsExpNeg}
 use Rattle.cg_exp.proofs.Squarings.{IsFull, squared-exponent, near-IsExponent}
 use Rattle.cg_exp.proofs.Starting.{start-Starts, denominator-positive}
 use Rattle.cg_like.specs.Likelihood.{likelihood_of}
@@ -101,11 +101,11 @@ likelihood-is : (d : Distance) → likelihood_of d ≡ margin (root (squared_wei
 unfolding likelihood_of
 likelihood-is d = refl
 
-in_range : (d : Distance) → IsMeasured d → IsInRange d.p d.q
+in_range : (d : Distance) → IsMeasured d → IsArgument d.p d.q
 in_range d m = record { some = m.some; reach = m.reach }
 
 -- the exponent of e^-z stands within 2 ^ 30 and a little
-exp_neg-near : (p q : ℕ) → IsInRange p q → IsExponent (2 ^ 30 + 62) (exp_neg_of p q).exp
+exp_neg-near : (p q : ℕ) → IsArgument p q → IsExponent (2 ^ 30 + 62) (exp_neg_of p q).exp
 unfolding halved
 exp_neg-near p q r =
     let h : ℕ = halvings p q in

@@ -8,8 +8,6 @@ mod cover;
 mod distance;
 mod laws;
 mod row;
-#[cfg(test)]
-mod tests;
 
 pub use cover::{LikeFault, covers};
 pub use laws::weights_enclose;

@@ -17,23 +17,24 @@ use Rattle.cg_table.specs.Sums.{sum_of, total_of}
 use Rattle.cg_table.proofs.LossLemmas.{greatest_loss-HasLoss}
 use Rattle.cg_table.proofs.ReachLemmas.{greatest_reach-IsExponent, IsExponent-more}
 use Rattle.cg_table.proofs.SumLemmas.{sum_of-IsEnclosure, sum_of-encloses, sum_of-HasLoss, sum_of-IsExponent, sum_of-IsZero, IsZero-terms}
-use Rattle.cg_marginal.specs.Finished.{entry_of, whole_of, EnclosesRow}
+use Rattle.cg_table.specs.Table.{row_entry, EnclosesRow}
+use Rattle.cg_marginal.specs.Finished.{whole_of}
 
 -- one more entry
-pub whole_more : (row : List Enclosure) (i : ℕ) → sum_of (entry_of row) 0 (i + 1) ≡ plus (sum_of (entry_of row) 0 i) (entry_of row i)
-whole_more row i = rw (add-one i) (ap (λ (x : ℕ). plus (sum_of (entry_of row) 0 i) (entry_of row x)) (zero-add i))
+pub whole_more : (row : List Enclosure) (i : ℕ) → sum_of (row_entry row) 0 (i + 1) ≡ plus (sum_of (row_entry row) 0 i) (row_entry row i)
+whole_more row i = rw (add-one i) (ap (λ (x : ℕ). plus (sum_of (row_entry row) 0 i) (row_entry row x)) (zero-add i))
 
-pub part-IsEnclosure : (row : List Enclosure) (i : ℕ) → All IsEnclosure row → i ≤ length row → IsEnclosure (sum_of (entry_of row) 0 i)
-part-IsEnclosure row i v le = sum_of-IsEnclosure (entry_of row) 0 i (λ j less. v (0 + j) exact_zero (omega arith))
+pub part-IsEnclosure : (row : List Enclosure) (i : ℕ) → All IsEnclosure row → i ≤ length row → IsEnclosure (sum_of (row_entry row) 0 i)
+part-IsEnclosure row i v le = sum_of-IsEnclosure (row_entry row) 0 i (λ j less. v (0 + j) exact_zero (omega arith))
 
-pub part-IsExponent : (row : List Enclosure) (i : ℕ) → All IsEnclosure row → i ≤ length row → length row ≤ 512 → greatest_reach row < 2 ^ 20 → IsExponent (2 ^ 60) (sum_of (entry_of row) 0 i).exp
+pub part-IsExponent : (row : List Enclosure) (i : ℕ) → All IsEnclosure row → i ≤ length row → length row ≤ 512 → greatest_reach row < 2 ^ 20 → IsExponent (2 ^ 60) (sum_of (row_entry row) 0 i).exp
 part-IsExponent row i v le few reach =
-    let near : IsExponent (greatest_reach row * 2 ^ 31 + i) (sum_of (entry_of row) 0 i).exp =
-    sum_of-IsExponent (entry_of row) (greatest_reach row * 2 ^ 31) 0 i (λ j less. v (0 + j) exact_zero (omega arith)) (λ j less. greatest_reach-IsExponent row (0 + j) exact_zero (omega arith)) in
-    IsExponent-more (sum_of (entry_of row) 0 i).exp (greatest_reach row * 2 ^ 31 + i) (2 ^ 60) (omega arith) near
+    let near : IsExponent (greatest_reach row * 2 ^ 31 + i) (sum_of (row_entry row) 0 i).exp =
+    sum_of-IsExponent (row_entry row) (greatest_reach row * 2 ^ 31) 0 i (λ j less. v (0 + j) exact_zero (omega arith)) (λ j less. greatest_reach-IsExponent row (0 + j) exact_zero (omega arith)) in
+    IsExponent-more (sum_of (row_entry row) 0 i).exp (greatest_reach row * 2 ^ 31 + i) (2 ^ 60) (omega arith) near
 
 pub whole-HasLoss : (row : List Enclosure) → All IsEnclosure row → HasLoss (whole_of row) (greatest_loss row + 3 * length row)
-whole-HasLoss row v = sum_of-HasLoss (entry_of row) (greatest_loss row) 0 (length row) (λ j less. v (0 + j) exact_zero (omega arith)) (λ j less. greatest_loss-HasLoss row (0 + j) exact_zero (omega arith))
+whole-HasLoss row v = sum_of-HasLoss (row_entry row) (greatest_loss row) 0 (length row) (λ j less. v (0 + j) exact_zero (omega arith)) (λ j less. greatest_loss-HasLoss row (0 + j) exact_zero (omega arith))
 
 -- an enclosure that isn't zero and loses less than all is firm
 firm_of_loss : (a : Enclosure) (k : ℕ) → k < 2 ^ 62 → HasLoss a k → 0 < a.hi → IsFirm a
@@ -50,9 +51,9 @@ whole-IsFirm row v few loss some = firm_of_loss (whole_of row) (greatest_loss ro
 pub whole-IsZero : (row : List Enclosure) → All IsEnclosure row → IsZero (whole_of row) ↔ All IsZero row
 whole-IsZero row v = (
   λ z i d less.
-      let here : IsZero (entry_of row (0 + i)) = IsZero-terms (entry_of row) 0 (length row) (λ j h. v (0 + j) exact_zero (omega arith)) z i less in
+      let here : IsZero (row_entry row (0 + i)) = IsZero-terms (row_entry row) 0 (length row) (λ j h. v (0 + j) exact_zero (omega arith)) z i less in
       rw (get_or_default row i d exact_zero less, ← zero-add i) here,
-  λ zeros. sum_of-IsZero (entry_of row) 0 (length row) (λ j less. v (0 + j) exact_zero (omega arith)) (λ j less. zeros (0 + j) exact_zero (omega arith)),
+  λ zeros. sum_of-IsZero (row_entry row) 0 (length row) (λ j less. v (0 + j) exact_zero (omega arith)) (λ j less. zeros (0 + j) exact_zero (omega arith)),
 )
 
 -- a term is at most the sum of all
@@ -83,12 +84,12 @@ cancelled b x t d u some below above = (le_of_mul-le-mul_right below some, le_of
 
 -- what an entry is of the whole, for all numbers that the row encloses
 pub entry-parts : (row : List Enclosure) (x : ℕ → ℕ) (d cell : ℕ) → All IsEnclosure row → IsFirm (whole_of row) → 0 < d → EnclosesRow row x d → cell < length row →
-    (ppm_below (entry_of row cell) (whole_of row) * total_of x 0 (length row) ≤ 1000000 * x cell) × (1000000 * x cell ≤ ppm_above (entry_of row cell) (whole_of row) * total_of x 0 (length row))
+    (ppm_below (row_entry row cell) (whole_of row) * total_of x 0 (length row) ≤ 1000000 * x cell) × (1000000 * x cell ≤ ppm_above (row_entry row cell) (whole_of row) * total_of x 0 (length row))
 entry-parts row x d cell v firm some h less =
-    let s : Shared (entry_of row cell) (whole_of row) = record { part = v cell exact_zero less; whole = part-IsEnclosure row (length row) v (omega arith); firm = firm } in
-    let whole = sum_of-encloses (entry_of row) x d 0 (length row) some (λ j l. v (0 + j) exact_zero (omega arith)) (λ j l. h (0 + j) (omega arith)) in
-    let both = ppm-encloses (entry_of row cell) (whole_of row) s (x cell) d (total_of x 0 (length row)) d (h cell less) whole (mul-le-mul_right d (term_below x (length row) cell less)) in
-    cancelled (ppm_below (entry_of row cell) (whole_of row)) (x cell) (total_of x 0 (length row)) d (ppm_above (entry_of row cell) (whole_of row)) some both.0 both.1
+    let s : Shared (row_entry row cell) (whole_of row) = record { part = v cell exact_zero less; whole = part-IsEnclosure row (length row) v (omega arith); firm = firm } in
+    let whole = sum_of-encloses (row_entry row) x d 0 (length row) some (λ j l. v (0 + j) exact_zero (omega arith)) (λ j l. h.at (0 + j) (omega arith)) in
+    let both = ppm-encloses (row_entry row cell) (whole_of row) s (x cell) d (total_of x 0 (length row)) d (h.at cell less) whole (mul-le-mul_right d (term_below x (length row) cell less)) in
+    cancelled (ppm_below (row_entry row cell) (whole_of row)) (x cell) (total_of x 0 (length row)) d (ppm_above (row_entry row cell) (whole_of row)) some both.0 both.1
 
 -- an enclosure encloses its own upper end
 top : ℕ → Enclosure → ℕ
@@ -116,12 +117,12 @@ total-positive z t d firm some h =
     ]
 
 -- the upper ends of all parts reach the whole
-pub upper-reach : (row : List Enclosure) (m : ℕ) → All IsEnclosure row → IsFirm (whole_of row) → ((i : ℕ) → i < length row → down (entry_of row i).exp ≤ m) →
-    1000000 ≤ total_of (λ i. ppm_above (entry_of row i) (whole_of row)) 0 (length row)
+pub upper-reach : (row : List Enclosure) (m : ℕ) → All IsEnclosure row → IsFirm (whole_of row) → ((i : ℕ) → i < length row → down (row_entry row i).exp ≤ m) →
+    1000000 ≤ total_of (λ i. ppm_above (row_entry row i) (whole_of row)) 0 (length row)
 upper-reach row m v firm near =
-    let x : ℕ → ℕ = λ i. top m (entry_of row i) in
-    let h : EnclosesRow row x (2 ^ m) = λ i less. top_encloses (entry_of row i) m (v i exact_zero less) (near i less) in
-    let all = total_bound x (λ i. ppm_above (entry_of row i) (whole_of row)) 1000000 (total_of x 0 (length row)) (length row) (λ i less. (entry-parts row x (2 ^ m) i v firm (pow_pos m) h less).1) in
+    let x : ℕ → ℕ = λ i. top m (row_entry row i) in
+    let h : EnclosesRow row x (2 ^ m) = record { at = λ i less. top_encloses (row_entry row i) m (v i exact_zero less) (near i less) } in
+    let all = total_bound x (λ i. ppm_above (row_entry row i) (whole_of row)) 1000000 (total_of x 0 (length row)) (length row) (λ i less. (entry-parts row x (2 ^ m) i v firm (pow_pos m) h less).1) in
     let some = total-positive (whole_of row) (total_of x 0 (length row)) (2 ^ m) firm (pow_pos m)
-    (sum_of-encloses (entry_of row) x (2 ^ m) 0 (length row) (pow_pos m) (λ j l. v (0 + j) exact_zero (omega arith)) (λ j l. h (0 + j) (omega arith))) in
+    (sum_of-encloses (row_entry row) x (2 ^ m) 0 (length row) (pow_pos m) (λ j l. v (0 + j) exact_zero (omega arith)) (λ j l. h.at (0 + j) (omega arith))) in
     le_of_mul-le-mul_right all some

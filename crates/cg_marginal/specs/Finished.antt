@@ -1,29 +1,22 @@
 -- The posterior of an event from a row of enclosures, one for each cell: chron's own.
 use Rattle.std.specs.Prelude.{◌≡◌, ℕ, ◌*◌, ◌<◌, ◌≤◌, nat_eq, if◌then◌else◌, List, length, map, slice_index_or, Option, Some, None}
 use Rattle.std.specs.List.{list_all}
-use Rattle.cg_enc.specs.Enclosure.{Enclosure, exact_zero, Encloses}
+use Rattle.cg_enc.specs.Enclosure.{Enclosure}
 use Rattle.cg_enc.specs.Rounding.{ppm_below, ppm_above}
 use Rattle.cg_table.specs.Sums.{sum_of, total_of}
-
--- the entry of a cell
-abbrev pub entry_of : List Enclosure → ℕ → Enclosure
-entry_of row cell = slice_index_or row cell exact_zero
+use Rattle.cg_table.specs.Table.{row_entry}
 
 -- all entries together, from the first cell on
 abbrev pub whole_of : List Enclosure → Enclosure
-whole_of row = sum_of (entry_of row) 0 (length row)
+whole_of row = sum_of (row_entry row) 0 (length row)
 
 -- what an entry is of the whole, in parts per million
-abbrev pub pair_of : Enclosure → Enclosure → ℕ × ℕ
-pair_of whole entry = (ppm_below entry whole, ppm_above entry whole)
+abbrev pub ppm_pair : Enclosure → Enclosure → ℕ × ℕ
+ppm_pair whole entry = (ppm_below entry whole, ppm_above entry whole)
 
 -- a pair for each entry; none where all entries are zero
 unfoldable pub finished : List Enclosure → Option (List (ℕ × ℕ))
-finished row = if list_all (λ entry. nat_eq entry.hi 0) row then None else Some (map (pair_of (whole_of row)) row)
-
--- the entries enclose x(cell) / d
-abbrev pub EnclosesRow : List Enclosure → (ℕ → ℕ) → ℕ → Type 0
-EnclosesRow row x d = (cell : ℕ) → cell < length row → Encloses (entry_of row cell) (x cell) d
+finished row = if list_all (λ entry. nat_eq entry.hi 0) row then None else Some (map (ppm_pair (whole_of row)) row)
 
 -- a pair for each cell, between whose ends stands what x(cell) is of the sum of all, in parts per million
 pub record ArePartsOf (x : ℕ → ℕ) (cells : ℕ) (pairs : List (ℕ × ℕ)) : Type 0 where

@@ -3,8 +3,6 @@
 
 mod marginal;
 mod parts;
-#[cfg(test)]
-mod tests;
 
 pub use marginal::{Marginal, Pairs};
 pub use parts::finish;

@@ -3,7 +3,8 @@ ghost use Rattle.std.specs.Prelude.{◌≡◌, ◌^◌, ◌<◌, ◌≤◌, ◌�
 ghost use Rattle.cg_enc.specs.Enclosure.{IsZero};
 ghost use Rattle.cg_table.specs.Losses.{greatest_loss, greatest_reach};
 ghost use Rattle.cg_table.specs.Row.{AreEntries};
-ghost use Rattle.cg_marginal.specs.Finished.{finished, whole_of, ArePartsOf, EnclosesRow};
+ghost use Rattle.cg_table.specs.Table.{EnclosesRow};
+ghost use Rattle.cg_marginal.specs.Finished.{finished, whole_of, ArePartsOf};
 ghost use Rattle.cg_marginal.specs.Marginal.{pairs_of};
 
 use crate::marginal::{Marginal, Pairs};

@@ -9,13 +9,12 @@ use Rattle.std.proofs.Math.Nat.{mul-pos}
 use borrow.Author.Differences.{up, down}
 use Rattle.cg_enc.specs.Enclosure.{Enclosure, exact_zero, IsEnclosure, IsExponent, IsZero, Encloses, HasLoss}
 use Rattle.cg_table.specs.Losses.{greatest_loss, greatest_reach}
-use Rattle.cg_table.specs.Table.{Table, IsTable, entry, table_loss, table_reach}
+use Rattle.cg_table.specs.Table.{Table, IsTable, EnclosesRow, entry, table_loss, table_reach}
 use Rattle.cg_table.specs.Formulas.{total_entry}
 use Rattle.cg_table.proofs.LossLemmas.{greatest_loss-least}
 use Rattle.cg_table.proofs.ReachLemmas.{greatest_reach-least}
 use Rattle.cg_table.proofs.SumLemmas.{sum_of-encloses}
 use Rattle.cg_table.proofs.WithinLemmas.{IsWithin, within_more, sum-within, entry-within}
-use Rattle.cg_marginal.specs.Finished.{EnclosesRow}
 use Rattle.cg_meaning.specs.Tree.{Tree, count}
 use Rattle.cg_meaning.specs.Scene.{Scene}
 use Rattle.cg_meaning.specs.Weights.{Weighting}
@@ -127,10 +126,12 @@ parts-reach cells rows tree event bounded asked =
 pub parts-enclose : (scene : Scene) (w : Weighting) (rows : Rows) (m : ℕ → ℕ) (tree : Tree) (event : ℕ) → TablesAreBounded →
     IsAsked scene.grid.cells rows tree event → AreWeighed scene w rows m 0 tree →
     EnclosesRow (parts_of scene.grid.cells rows tree event) (total_at tree scene w event) (divisor scene.grid.cells m 0 tree)
-parts-enclose scene w rows m tree event bounded asked weighed cell h =
-    let inside : cell < scene.grid.cells = omega (arith, length-parts_of scene.grid.cells rows tree event) in
-    rw (parts-at scene.grid.cells rows tree event cell exact_zero inside)
-    (part-encloses scene w rows m tree event cell bounded asked weighed)
+parts-enclose scene w rows m tree event bounded asked weighed = record {
+  at = λ cell h.
+      let inside : cell < scene.grid.cells = omega (arith, length-parts_of scene.grid.cells rows tree event) in
+      rw (parts-at scene.grid.cells rows tree event cell exact_zero inside)
+      (part-encloses scene w rows m tree event cell bounded asked weighed);
+}
 
 -- what encloses 0 and loses little is zero
 near-zero : (a : Enclosure) (n d : ℕ) → HasLoss a (2 ^ 40) → 0 < d → Encloses a n d → n ≡ 0 → IsZero a

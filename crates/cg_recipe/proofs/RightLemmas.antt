@@ -6,7 +6,7 @@ use Rattle.std.proofs.lemmas.Bool.{cases_eq}
 use Rattle.cg_enc.specs.Enclosure.{Enclosure, exact_zero, IsZero}
 use Rattle.cg_enc.proofs.Products.{only_zero}
 use Rattle.cg_table.specs.Sums.{total_of}
-use Rattle.cg_marginal.specs.Finished.{finished, whole_of, pair_of, ArePartsOf}
+use Rattle.cg_marginal.specs.Finished.{finished, whole_of, ppm_pair, ArePartsOf}
 use Rattle.cg_marginal.specs.Pairs.{ArePairs}
 use Rattle.cg_marginal.proofs.FinishedLemmas.{finished-impossible, finished-pairs, IsTold, ArePairs-told, ArePartsOf-told}
 use Rattle.cg_marginal.proofs.WholeLemmas.{whole-IsZero}
@@ -78,23 +78,23 @@ none-counts tree scene event w r admitted zeros =
     (λ cell h.
     let inside : cell < length (parts tree scene event) = omega (arith, length-parts_of scene.grid.cells (rows_in scene tree) tree event) in
     only_zero (get_or (parts tree scene event) cell exact_zero) (total_at tree scene w event cell) (divisor scene.grid.cells m 0 tree)
-    (zeros cell exact_zero inside) (enclosed cell inside))
+    (zeros cell exact_zero inside) (enclosed.at cell inside))
 
 -- what the parts are of the whole, under each admitted weighting
 told-parts : (tree : Tree) (scene : Scene) (event : ℕ) (w : Weighting) → IsReady tree scene event → AreAdmitted tree scene w → IsTold (parts tree scene event) →
-    ArePartsOf (total_at tree scene w event) scene.grid.cells (map (pair_of (whole_of (parts tree scene event))) (parts tree scene event))
+    ArePartsOf (total_at tree scene w event) scene.grid.cells (map (ppm_pair (whole_of (parts tree scene event))) (parts tree scene event))
 told-parts tree scene event w r admitted told =
     let weighed = rows-weighed tree scene w r.known admitted in
     let m = multiplier tree scene w r.known admitted in
     let row = parts tree scene event in
-    subst (λ (n : ℕ). ArePartsOf (total_at tree scene w event) n (map (pair_of (whole_of row)) row)) (length-parts_of scene.grid.cells (rows_in scene tree) tree event)
+    subst (λ (n : ℕ). ArePartsOf (total_at tree scene w event) n (map (ppm_pair (whole_of row)) row)) (length-parts_of scene.grid.cells (rows_in scene tree) tree event)
     (ArePartsOf-told row (total_at tree scene w event) (divisor scene.grid.cells m 0 tree) told
     (divisor-some scene w (rows_in scene tree) m tree r.asked.few weighed)
     (parts-enclose scene w (rows_in scene tree) m tree event r.bounded r.asked weighed))
 
 -- so the pairs hold
 held : (tree : Tree) (scene : Scene) (event : ℕ) (w : Weighting) → IsReady tree scene event → AreAdmitted tree scene w → 0 < total tree scene w →
-    IsTold (parts tree scene event) → AreHeld tree scene event (map (pair_of (whole_of (parts tree scene event))) (parts tree scene event))
+    IsTold (parts tree scene event) → AreHeld tree scene event (map (ppm_pair (whole_of (parts tree scene event))) (parts tree scene event))
 held tree scene event w r admitted some told =
     let dating = possible tree scene w some in
     record {

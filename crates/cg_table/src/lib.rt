@@ -10,8 +10,6 @@ mod side;
 mod single;
 mod span;
 mod steps;
-#[cfg(test)]
-mod tests;
 mod tri;
 
 pub use groups::{after_group, before_group};

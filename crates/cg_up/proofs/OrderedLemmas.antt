@@ -13,7 +13,7 @@ use Rattle.cg_recipe.specs.Ticks.{ticks_of, in_order_ticks, behind_ticks}
 use Rattle.cg_recipe.proofs.BoundsTables.{bounded_more, identity-bounded, then_row-bounded, then-bounded, beside-bounded}
 use Rattle.cg_recipe.proofs.BoundsRows.{row_in-bounded, item_in-bounded}
 use Rattle.cg_recipe.proofs.BoundsTrees.{IsReady, nodes_in, node-bounded, side_by_side-bounded, nodes-some, open-few}
-use Rattle.cg_up.specs.Ordered.{table_so_far, ordered_all, ordered_ticks, group_of, followed_by, put_behind, ordered_with, member_ticks, HasRoom, HaveRoom, IsRoomy}
+use Rattle.cg_up.specs.Ordered.{table_so_far, ordered_all, ordered_ticks, group_of, followed_by, put_behind, ordered_with, member_ticks, HasReachFor, HaveReachFor, LeavesReachFor}
 use Rattle.cg_up.specs.declared.ordered.Ordered.{Ordered}
 use Rattle.cg_up.specs.declared.ordered.Ordered.TheVariants.{InOrder, Behind}
 
@@ -59,19 +59,19 @@ ordered_all-none pass number (InOrder before) = refl
 ordered_all-none pass number (Behind before segment opened) = refl
 
 -- room for more is room for less
-pub room_less : (cells n m : ℕ) (t : Table) → m ≤ n → HasRoom cells n t → HasRoom cells m t
+pub room_less : (cells n m : ℕ) (t : Table) → m ≤ n → HasReachFor cells n t → HasReachFor cells m t
 room_less cells n m t le h = record { table = h.table; each = h.each; near = omega (arith, h.near) }
 
 -- a bounded table has room
-pub bounded_room : (cells k r n : ℕ) (t : Table) → r + 8 * n < 2 ^ 20 → IsBounded cells k r t → HasRoom cells n t
+pub bounded_room : (cells k r n : ℕ) (t : Table) → r + 8 * n < 2 ^ 20 → IsBounded cells k r t → HasReachFor cells n t
 bounded_room cells k r n t near h = record { table = h.table; each = h.each; near = omega (arith, near, h.reached) }
 
 -- a table with room has bounds
-pub room_bounded : (cells n : ℕ) (t : Table) → HasRoom cells n t → IsBounded cells (table_loss t) (table_reach t) t
+pub room_bounded : (cells n : ℕ) (t : Table) → HasReachFor cells n t → IsBounded cells (table_loss t) (table_reach t) t
 room_bounded cells n t h = record { table = h.table; each = h.each; lost = omega arith; reached = omega arith }
 
 -- what follows a table: a group's table is of as many cells, and reaches little
-pub group_fits : (pass : Pass) (number : ℕ) (t : Tree) (before table : Table) → IsReady pass → count t ≤ 100 → HasRoom pass.cells (nodes t) before → Some table ≡ group_of pass number t →
+pub group_fits : (pass : Pass) (number : ℕ) (t : Tree) (before table : Table) → IsReady pass → count t ≤ 100 → HasReachFor pass.cells (nodes t) before → Some table ≡ group_of pass number t →
     (before.cells ≡ table.cells) × (table_reach before + table_reach table < 2 ^ 20)
 group_fits pass number (Leaf name dating) before table ready few room is = absurd (cc)
 group_fits pass number (Boundary name) before table ready few room is = absurd (cc)
@@ -81,20 +81,20 @@ group_fits pass number (Group kind name ts) before table ready few room is =
     rw same (room.each ∙ sym own.each, omega (arith, room.near, own.reached))
 
 -- and so is the row of an event
-pub row_fits : (pass : Pass) (number : ℕ) (t : Tree) (before : Table) (row : List Enclosure) → IsReady pass → HasRoom pass.cells (nodes t) before → row ≡ row_in pass number →
+pub row_fits : (pass : Pass) (number : ℕ) (t : Tree) (before : Table) (row : List Enclosure) → IsReady pass → HasReachFor pass.cells (nodes t) before → row ≡ row_in pass number →
     (before.cells ≡ length row) × (table_reach before + greatest_reach row < 2 ^ 20)
 row_fits pass number t before row ready room is =
     let own = row_in-bounded pass number ready.light in
     rw is (room.each ∙ sym own.each, omega (arith, room.near, own.reached, nodes-some t))
 
 -- the item of a span, too
-pub item_fits : (pass : Pass) (number n m opened : ℕ) (before segment item : Table) → IsReady pass → 1 ≤ n → HaveRoom pass.cells n m before segment opened → item ≡ item_in pass number segment opened →
+pub item_fits : (pass : Pass) (number n m opened : ℕ) (before segment item : Table) → IsReady pass → 1 ≤ n → HaveReachFor pass.cells n m before segment opened → item ≡ item_in pass number segment opened →
     (before.cells ≡ item.cells) × (table_reach before + table_reach item < 2 ^ 20)
 item_fits pass number n m opened before segment item ready some room is =
     let own = item_in-bounded pass (table_loss segment) (table_reach segment) number opened segment ready.few (omega (arith, room.behind.near)) (omega (arith, room.few)) (room_bounded pass.cells n segment room.behind) in
     rw is (room.front.each ∙ sym own.each, omega (arith, room.near, own.reached, some))
 
-followed_by-bounded : (pass : Pass) (number : ℕ) (t : Tree) (before : Table) → IsReady pass → count t ≤ 100 → HasRoom pass.cells (nodes t) before →
+followed_by-bounded : (pass : Pass) (number : ℕ) (t : Tree) (before : Table) → IsReady pass → count t ≤ 100 → HasReachFor pass.cells (nodes t) before →
     IsBounded pass.cells (table_loss before + count t * weight_loss + 8 * nodes t * 2 ^ 13) (table_reach before + 8 * nodes t) (followed_by pass number before t)
 followed_by-bounded pass number (Leaf name dating) before ready few room =
     bounded_more (omega arith) (omega arith)
@@ -108,16 +108,16 @@ followed_by-bounded pass number (Group kind name ts) before ready few room =
     (node-bounded pass number (Group kind name ts) ready (omega (arith, room.near)) few))
 
 -- with one more member there is room for those behind it
-followed_by-room : (pass : Pass) (number n : ℕ) (t : Tree) (before : Table) → IsReady pass → count t ≤ 100 → HasRoom pass.cells (nodes t + n) before → HasRoom pass.cells n (followed_by pass number before t)
+followed_by-room : (pass : Pass) (number n : ℕ) (t : Tree) (before : Table) → IsReady pass → count t ≤ 100 → HasReachFor pass.cells (nodes t + n) before → HasReachFor pass.cells n (followed_by pass number before t)
 followed_by-room pass number n t before ready few room =
     bounded_room pass.cells _ (table_reach before + 8 * nodes t) n _ (omega (arith, room.near))
     (followed_by-bounded pass number t before ready few (room_less pass.cells (nodes t + n) (nodes t) before (omega arith) room))
 
-identity_room : (cells n : ℕ) → cells ≤ 512 → 8 * n + 1 < 2 ^ 20 → HasRoom cells n (identity_of cells)
+identity_room : (cells n : ℕ) → cells ≤ 512 → 8 * n + 1 < 2 ^ 20 → HasReachFor cells n (identity_of cells)
 identity_room cells n few near = bounded_room cells 0 1 n (identity_of cells) (omega (arith, near)) (identity-bounded cells few)
 
-put_behind-room : (pass : Pass) (number n m : ℕ) (further : Bool) (before segment : Table) (opened : ℕ) (t : Tree) → IsReady pass → HaveRoom pass.cells (nodes t + n) (count t + m) before segment opened →
-    IsRoomy pass.cells n m (put_behind pass number further before segment opened t)
+put_behind-room : (pass : Pass) (number n m : ℕ) (further : Bool) (before segment : Table) (opened : ℕ) (t : Tree) → IsReady pass → HaveReachFor pass.cells (nodes t + n) (count t + m) before segment opened →
+    LeavesReachFor pass.cells n m (put_behind pass number further before segment opened t)
 put_behind-room pass number n m true before segment opened t ready room =
     let own = followed_by-bounded pass number t segment ready (omega (arith, room.few)) (room_less pass.cells (nodes t + n) (nodes t) segment (omega arith) room.behind) in
     record {
@@ -129,7 +129,7 @@ put_behind-room pass number n m true before segment opened t ready room =
 put_behind-room pass number n m false before segment opened t ready room = followed_by-room pass number n t before ready (omega (arith, room.few)) room.front
 
 pub ordered_with-room : (pass : Pass) (number n m : ℕ) (further : Bool) (ordered : Ordered) (t : Tree) → IsReady pass → count t + m ≤ 100 →
-    IsRoomy pass.cells (nodes t + n) (count t + m) ordered → IsRoomy pass.cells n m (ordered_with pass number further ordered t)
+    LeavesReachFor pass.cells (nodes t + n) (count t + m) ordered → LeavesReachFor pass.cells n m (ordered_with pass number further ordered t)
 ordered_with-room pass number n m further (InOrder before) (Leaf name dating) ready few room = followed_by-room pass number n (Leaf name dating) before ready (omega (arith, few)) room
 ordered_with-room pass number n m further (InOrder before) (Boundary name) ready few room =
     let row = row_in-bounded pass number ready.light in
@@ -156,7 +156,7 @@ ordered_with-room pass number n m further (Behind before segment opened) (Bounda
 ordered_with-room pass number n m further (Behind before segment opened) (Group kind name us) ready few room = put_behind-room pass number n m further before segment opened (Group kind name us) ready room
 
 -- a member's own share of the room
-pub roomy_less : (cells n m n' m' : ℕ) (ordered : Ordered) → n' ≤ n → m' ≤ m → IsRoomy cells n m ordered → IsRoomy cells n' m' ordered
+pub roomy_less : (cells n m n' m' : ℕ) (ordered : Ordered) → n' ≤ n → m' ≤ m → LeavesReachFor cells n m ordered → LeavesReachFor cells n' m' ordered
 roomy_less cells n m n' m' (InOrder before) le le' room = room_less cells n n' before le room
 roomy_less cells n m n' m' (Behind before segment opened) le le' room = record {
   front = room_less cells n n' before le room.front;
@@ -169,9 +169,9 @@ roomy_less cells n m n' m' (Behind before segment opened) le le' room = record {
 pub record StandsBeside (cells n : ℕ) (others table : Table) : Type 0 where
   pub each : others.cells ≡ table.cells
   pub near : table_reach others + table_reach table < 2 ^ 20
-  pub room : HasRoom cells n (beside_of others table)
+  pub room : HasReachFor cells n (beside_of others table)
 
-pub stands_beside : (pass : Pass) (number n : ℕ) (t : Tree) (others : Table) → IsReady pass → count t ≤ 100 → HasRoom pass.cells (nodes t + n) others → StandsBeside pass.cells n others (table_of pass number t)
+pub stands_beside : (pass : Pass) (number n : ℕ) (t : Tree) (others : Table) → IsReady pass → count t ≤ 100 → HasReachFor pass.cells (nodes t + n) others → StandsBeside pass.cells n others (table_of pass number t)
 stands_beside pass number n t others ready few room =
     let some = nodes-some t in
     let own = node-bounded pass number t ready (omega (arith, room.near)) few in
@@ -183,11 +183,11 @@ stands_beside pass number n t others ready few room =
     }
 
 -- the table of members side by side reaches little
-pub side_by_side-near : (pass : Pass) (number : ℕ) (ts : Trees) → IsReady pass → count_all ts ≤ 100 → groups_in ts ≤ 61 → HasRoom pass.cells 1 (side_by_side pass number (identity_of pass.cells) ts)
+pub side_by_side-near : (pass : Pass) (number : ℕ) (ts : Trees) → IsReady pass → count_all ts ≤ 100 → groups_in ts ≤ 61 → HasReachFor pass.cells 1 (side_by_side pass number (identity_of pass.cells) ts)
 side_by_side-near pass number ts ready events groups =
     bounded_room pass.cells _ (1 + 8 * nodes_in ts) 1 _ (omega (arith, events, groups))
     (side_by_side-bounded pass number 0 1 (identity_of pass.cells) ts ready (omega (arith, events, groups)) events (identity-bounded pass.cells ready.few))
 
 -- nothing has room for as many nodes as a model has
-pub nothing_room : (cells : ℕ) (ts : Trees) → cells ≤ 512 → count_all ts ≤ 100 → groups_in ts ≤ 61 → HasRoom cells (nodes_in ts) (identity_of cells)
+pub nothing_room : (cells : ℕ) (ts : Trees) → cells ≤ 512 → count_all ts ≤ 100 → groups_in ts ≤ 61 → HasReachFor cells (nodes_in ts) (identity_of cells)
 nothing_room cells ts few events groups = identity_room cells (nodes_in ts) few (omega (arith, events, groups))

@@ -9,7 +9,7 @@ use Rattle.cg_recipe.specs.Recipe as recipe_pass
 use Rattle.cg_recipe.specs.Recipe.{Rows, table_of, side_by_side}
 use Rattle.cg_recipe.proofs.BoundsTrees as recipe
 use Rattle.cg_recipe.proofs.BoundsTrees.{nodes_in}
-use Rattle.cg_up.specs.Ordered.{HasRoom}
+use Rattle.cg_up.specs.Ordered.{HasReachFor}
 use Rattle.cg_up.specs.Pass.{IsReady, holding, pass_of, root}
 use Rattle.cg_up.specs.declared.pass.Pass.{Pass}
 use Rattle.cg_up.proofs.OrderedLemmas.{room_less, StandsBeside, stands_beside, side_by_side-near}
@@ -26,10 +26,10 @@ phase_near pass number ts phase ready events groups is =
 
 -- the next table stands beside those so far
 pub beside_here : (pass : Pass) (number : ℕ) (t : Tree) (ts all : Trees) (others table : Table) → IsReady pass → all ≡ more t ts → number + count_all all ≤ length pass.rows.now →
-    HasRoom pass.cells (nodes_in all) others → table ≡ table_of (pass_of pass) number t → StandsBeside pass.cells (nodes_in ts) others table
+    HasReachFor pass.cells (nodes_in all) others → table ≡ table_of (pass_of pass) number t → StandsBeside pass.cells (nodes_in ts) others table
 beside_here pass number t ts all others table ready here events room is =
     let few = ap count_all here in
-    let enough = subst (λ ts. HasRoom pass.cells (nodes_in ts) others) here room in
+    let enough = subst (λ ts. HasReachFor pass.cells (nodes_in ts) others) here room in
     rw is (stands_beside (pass_of pass) number (nodes_in ts) t others (ready_pass pass ready) (omega (arith, few, events, ready.events)) (room_less pass.cells _ (nodes t + nodes_in ts) others (omega arith) enough))
 
 -- the table of the whole tree in a pass that holds the event

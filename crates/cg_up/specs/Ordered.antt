@@ -66,19 +66,19 @@ member_ticks cells (Behind before segment opened) (Boundary name) = spanned_tick
 member_ticks cells (Behind before segment opened) (Group kind name ts) = follow_ticks cells (Group kind name ts)
 
 -- A table for this many cells that reaches little, even after as many nodes.
-pub record HasRoom (cells nodes : ℕ) (t : Table) : Type 0 where
+pub record HasReachFor (cells nodes : ℕ) (t : Table) : Type 0 where
   pub table : IsTable t
   pub each : t.cells ≡ cells
   pub near : table_reach t + 8 * nodes < 2 ^ 20
 
 -- Two of them, and few open events even after as many.
-pub record HaveRoom (cells nodes events : ℕ) (before segment : Table) (opened : ℕ) : Type 0 where
-  pub front : HasRoom cells nodes before
-  pub behind : HasRoom cells nodes segment
+pub record HaveReachFor (cells nodes events : ℕ) (before segment : Table) (opened : ℕ) : Type 0 where
+  pub front : HasReachFor cells nodes before
+  pub behind : HasReachFor cells nodes segment
   pub near : table_reach before + table_reach segment + 8 * nodes < 2 ^ 20
   pub few : opened + events ≤ 100
 
--- those of the members so far have room for as many nodes and events
-abbrev pub IsRoomy : ℕ → ℕ → ℕ → Ordered → Type 0
-IsRoomy cells nodes events (InOrder before) = HasRoom cells nodes before
-IsRoomy cells nodes events (Behind before segment opened) = HaveRoom cells nodes events before segment opened
+-- those of the members so far reach little, even after as many nodes and events
+abbrev pub LeavesReachFor : ℕ → ℕ → ℕ → Ordered → Type 0
+LeavesReachFor cells nodes events (InOrder before) = HasReachFor cells nodes before
+LeavesReachFor cells nodes events (Behind before segment opened) = HaveReachFor cells nodes events before segment opened

@@ -8,7 +8,5 @@ mod pass;
 mod rows;
 mod size;
 mod tables;
-#[cfg(test)]
-mod tests;
 
 pub use marginal::evaluate;

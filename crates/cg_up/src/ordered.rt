@@ -3,7 +3,7 @@ ghost use Rattle.std.specs.Prelude.{◌≡◌, ◌+◌, ◌≤◌, IfOk, length}
 ghost use Rattle.cg_meaning.specs.Tree.{count};
 ghost use Rattle.cg_model.specs.Node.{tree_of};
 ghost use Rattle.cg_recipe.specs.Bounds.{nodes};
-ghost use Rattle.cg_up.specs.Ordered.{HasRoom, IsRoomy, follow_ticks, followed_by, group_of, member_ticks, ordered_with, table_so_far};
+ghost use Rattle.cg_up.specs.Ordered.{HasReachFor, LeavesReachFor, follow_ticks, followed_by, group_of, member_ticks, ordered_with, table_so_far};
 ghost use Rattle.cg_up.specs.Pass.{IsReady, pass_of};
 
 use crate::pass::Pass;
@@ -47,7 +47,7 @@ pub(crate) fn ordered_with<L: Ledger>(
     requires ready { IsReady pass.now }
     requires events { number + count (tree_of node.now) ≤ length pass.now.rows.now }
     requires few { count (tree_of node.now) ≤ 100 }
-    requires room { IsRoomy pass.now.cells (nodes (tree_of node.now)) (count (tree_of node.now)) ordered }
+    requires room { LeavesReachFor pass.now.cells (nodes (tree_of node.now)) (count (tree_of node.now)) ordered }
     requires group { group.now ≡ group_of (pass_of pass.now) number (tree_of node.now) }
     ensures value { IfOk result (λ next. next ≡ ordered_with (pass_of pass.now) number further ordered (tree_of node.now)) }
     ensures ticks { steps.new ≤ steps.old + member_ticks pass.now.cells ordered (tree_of node.now) }
@@ -87,7 +87,7 @@ fn followed_by<L: Ledger>(
     requires ready { IsReady pass.now }
     requires events { number + count (tree_of node.now) ≤ length pass.now.rows.now }
     requires few { count (tree_of node.now) ≤ 100 }
-    requires room { HasRoom pass.now.cells (nodes (tree_of node.now)) before.now }
+    requires room { HasReachFor pass.now.cells (nodes (tree_of node.now)) before.now }
     requires group { group.now ≡ group_of (pass_of pass.now) number (tree_of node.now) }
     ensures value { IfOk result (λ t. t ≡ followed_by (pass_of pass.now) number before.now (tree_of node.now)) }
     ensures ticks { steps.new ≤ steps.old + follow_ticks pass.now.cells (tree_of node.now) }

@@ -1,8 +1,8 @@
 use Rattle.cg_exp.proofs.Halving.{halvings-IsHalving, halving_few}
-use Rattle.cg_exp.proofs.Recipes.{IsInRange, exp_neg-IsExpNeg, exp_neg-IsBounded}
+use Rattle.cg_exp.proofs.Recipes.{IsArgument, exp_neg-IsExpNeg, exp_neg-IsBounded}
 use Rattle.cg_exp.proofs.exp_neg.Goals as goal
 
-in_range : (c : goal.After-recipe) → IsInRange c.args.p c.args.q
+in_range : (c : goal.After-recipe) → IsArgument c.args.p c.args.q
 in_range c = record { some = c.requires.some; reach = c.requires.reach }
 
 pub returns-clause-halving : goal.returns-clause-halving

@@ -5,7 +5,7 @@ use Rattle.std.proofs.lemmas.List.{take_all}
 use Rattle.cg_enc.specs.Enclosure.{Enclosure, IsExponent, IsFirm, IsZero}
 use Rattle.cg_table.specs.Losses.{greatest_loss}
 use Rattle.cg_table.specs.Row.{AreEntries}
-use Rattle.cg_marginal.specs.Finished.{pair_of, whole_of}
+use Rattle.cg_marginal.specs.Finished.{ppm_pair, whole_of}
 use Rattle.cg_marginal.proofs.WholeLemmas.{part-IsExponent, whole-IsFirm, whole-IsZero}
 use Rattle.cg_marginal.proofs.FinishedLemmas.{IsTold, ArePairs-made, finished-impossible, finished-pairs}
 use Rattle.cg_marginal.proofs.parts.shares.Goals as goal
@@ -50,6 +50,6 @@ pub returns-clause-value : goal.returns-clause-value
 returns-clause-value c =
     let past : length c.args.n.now ≤ c.loop-cell.cell = omega arith in
     let t = told c.args.n.now c.whole_of-whole.result c.is_zero.result c.whole_of-whole.ensures.entries c.requires.few c.requires.loss c.whole_of-whole.ensures.value c.is_zero.ensures.test c.if-is_zero.false in
-    let all = ap (map (pair_of c.whole_of-whole.result)) (take_all c.loop-cell.cell c.args.n.now past) in
-    let whole = ap (λ (a : Enclosure). map (pair_of a) c.args.n.now) c.whole_of-whole.ensures.value in
+    let all = ap (map (ppm_pair c.whole_of-whole.result)) (take_all c.loop-cell.cell c.args.n.now past) in
+    let whole = ap (λ (a : Enclosure). map (ppm_pair a) c.args.n.now) c.whole_of-whole.ensures.value in
     ap Some (c.new.ensures ∙ c.loop-cell.invariant ∙ all ∙ whole) ∙ sym (finished-pairs c.args.n.now t.valid t.some)

@@ -9,7 +9,7 @@ use Rattle.cg_recipe.specs.Bounds.{nodes}
 use Rattle.cg_recipe.specs.Recipe.{side_by_side, table_of}
 use Rattle.cg_recipe.specs.Ticks.{side_by_side_ticks}
 use Rattle.cg_recipe.proofs.BoundsTrees.{nodes_in}
-use Rattle.cg_up.specs.Ordered.{HasRoom, IsRoomy, ordered_all, ordered_ticks, ordered_with}
+use Rattle.cg_up.specs.Ordered.{HasReachFor, LeavesReachFor, ordered_all, ordered_ticks, ordered_with}
 use Rattle.cg_up.specs.Pass.{pass_of}
 use Rattle.cg_up.proofs.OrderedLemmas.{ordered_with-all, ordered_with-ticks, ordered_with-room, roomy_less}
 use Rattle.cg_up.proofs.PassLemmas.{ready_pass, phase_near, beside_here}
@@ -44,14 +44,14 @@ in_order-loop-place-preserved g t c =
     let events = ap count_all here in
     let groups = ap groups_in here in
     let own : c.events.result ≡ count node = omega (arith, c.events.ensures, events, c.loop-place.invariant.events, c.requires.ready.events) in
-    let room = subst (λ ts. IsRoomy cells (nodes_in ts) (count_all ts) ordered) here c.loop-place.invariant.room in
+    let room = subst (λ ts. LeavesReachFor cells (nodes_in ts) (count_all ts) ordered) here c.loop-place.invariant.room in
     let ticks = ap (λ ts. ordered_ticks cells ordered ts) here ∙ ordered_with-ticks pass c.loop-place.next cells ordered node later in
     let later_ticks = ap (λ o. ordered_ticks cells o later) with in
     record {
       value = rw (own, with)
           (ordered_with-all pass c.loop-place.next ordered node later ∙ ap (λ ts. ordered_all pass c.loop-place.next ordered ts) (sym here) ∙ c.loop-place.invariant.value);
       ticks = omega (arith, c.loop-place.invariant.ticks, c.group_of.ensures.ticks, c.ordered_with.ensures.ticks, ticks, later_ticks);
-      room = subst (IsRoomy cells (nodes_in later) (count_all later)) (sym with)
+      room = subst (LeavesReachFor cells (nodes_in later) (count_all later)) (sym with)
           (ordered_with-room pass c.loop-place.next (nodes_in later) (count_all later) (has_boundary later) ordered node (ready_pass c.args.pass.now c.requires.ready)
           (omega (arith, events, c.loop-place.invariant.events, c.requires.ready.events))
           (roomy_less cells _ _ (nodes node + nodes_in later) (count node + count_all later) ordered (omega arith) (omega arith) room));
@@ -88,7 +88,7 @@ side_by_side-loop-node-preserved g t c =
     record {
       value = rw (own, with) (ap (λ ts. side_by_side pass c.loop-node.next others ts) (sym here) ∙ c.loop-node.invariant.value);
       ticks = omega (arith, c.loop-node.invariant.ticks, c.group_of.ensures.ticks, rw c.loop-node.invariant.room.each at beside_ticks, ticks);
-      room = subst (HasRoom cells (nodes_in later)) (sym c.in_ok-others-2.ensures.value) stands.room;
+      room = subst (HasReachFor cells (nodes_in later)) (sym c.in_ok-others-2.ensures.value) stands.room;
       events = omega (arith, c.loop-node.invariant.events, c.events-next.ensures, ap count_all here);
       groups = omega (arith, c.loop-node.invariant.groups, ap groups_in here);
     }

@@ -1,4 +1,0 @@
-use Rattle.cg_up.proofs.tests.one_sided_groups.Given as goal
-
-abbrev pub ghosts-assert_cases : goal.ghosts-assert_cases
-ghosts-assert_cases g a = record { name = a.blank.name; parts = a.blank.parts }
