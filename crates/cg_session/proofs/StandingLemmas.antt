@@ -1,5 +1,5 @@
 -- What a standing shows.
-use Rattle.std.proofs.Common.{◌≡◌, ℕ, List, [], ◌∷◌, ◌++◌, map, sym, ap, ap₂, subst, ◌∙◌, Option, Some, None, Result}
+use Rattle.std.proofs.Common.{◌≡◌, ℕ, [], ◌∷◌, ◌++◌, map, sym, ap, ap₂, subst, ◌∙◌, Option, Some, None, Result}
 use Rattle.std.specs.Prelude.{option_map, MatchOption}
 use Rattle.cg_meaning.specs.Curve.{Curve}
 use Rattle.cg_meaning.specs.Tree.{Name, Chronology}

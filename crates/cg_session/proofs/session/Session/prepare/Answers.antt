@@ -1,4 +1,4 @@
-use Rattle.std.proofs.Common.{rules, ◌≡◌, ◌∙◌, None, option_map, refl, sym, ap, arith, Some}
+use Rattle.std.proofs.Common.{rules, ◌≡◌, ◌∙◌, option_map, refl, sym, ap, arith, Some}
 use Rattle.cg_sharing.specs.Command.{Line}
 use Rattle.cg_script.specs.Command.{command_in}
 use Rattle.cg_sharing.specs.Course.{Place, act_of}

@@ -1,4 +1,4 @@
-use Rattle.std.proofs.Common.{rules, ◌≡◌, ◌++◌, ◌∷◌, [], Some, Err, Ok, sym, ap, ap₂, subst, ◌∙◌}
+use Rattle.std.proofs.Common.{rules, ◌≡◌, ◌++◌, ◌∷◌, [], Err, Ok, sym, ap, ap₂, subst, ◌∙◌}
 use Rattle.std.specs.Arc.{arc_value}
 use Rattle.cg_meaning.specs.Tree.{root_of}
 use Rattle.cg_recipe.specs.Recipe.{recipe}

@@ -1,4 +1,4 @@
-use Rattle.std.proofs.Common.{rules, ◌≡◌, refl, sym, ap, subst, ◌++◌, ◌∙◌}
+use Rattle.std.proofs.Common.{rules, ◌≡◌, refl, sym, subst, ◌++◌}
 use Rattle.cg_sharing.specs.Texts as texts
 use Rattle.cg_sharing.specs.Texts.{refused_line}
 use Rattle.cg_sharing.specs.Pieces.{Lines}

@@ -3,7 +3,7 @@ use Rattle.cg_meaning.specs.Scene.{Grid}
 use Rattle.cg_sharing.specs.Texts as texts
 use Rattle.cg_sharing.specs.Texts.{refused_line, grid_line}
 use Rattle.cg_sharing.specs.Pieces.{Lines}
-use Rattle.cg_sharing.specs.Course.{Place, grid_of, with_grid}
+use Rattle.cg_sharing.specs.Course.{grid_of, with_grid}
 use Rattle.cg_session.specs.declared.standing.Standing.{Standing}
 use Rattle.cg_session.specs.Standing.{Shows}
 use Rattle.cg_session.proofs.StandingLemmas.{piece_shown}
