@@ -5,3 +5,4 @@ pub mod LineLemmas
 pub mod PortLemmas
 pub mod SessionLemmas
 pub mod StandingLemmas
+pub mod StepLemmas

@@ -2,4 +2,5 @@ pub mod Cause
 pub mod Port
 pub mod Session
 pub mod Standing
+pub mod Steps
 pub mod Transcript

@@ -1,4 +1,4 @@
-ghost use Rattle.std.specs.Prelude.{◌≡◌, ◌<◌, ◌≤◌, ◌+◌, length, slice_get, Some, true, false, vec_len, vec_capacity, IfOk, OnErr, MatchOption};
+ghost use Rattle.std.specs.Prelude.{◌≡◌, ◌<◌, ◌≤◌, ◌+◌, length, slice_get, Some, true, false, vec_len, vec_capacity, IfOk, OnOk, OnErr, MatchOption};
 ghost use Rattle.cg_sharing.specs.Command as spec;
 ghost use Rattle.cg_meaning.specs.Curve.{Curve};
 ghost use Rattle.cg_sharing.specs.Course.{Place, answered, transcript_of, AreFit};
@@ -49,8 +49,9 @@ pub struct Session {
 
 impl Session {
     ghost use Rattle.cg_session.specs.Standing.{first_curve, Shows, HasText, IsSpare};
+    ghost use Rattle.cg_session.specs.Steps.{Counts};
     ghost use Rattle.cg_session.specs.Transcript.{HasRoom};
-    ghost use Rattle.cg_session.specs.Session.{seat_of, script_of, left_of, is_stopped, IsIn, IsFresh, IsAt, IsSame, IsPrepared, Came};
+    ghost use Rattle.cg_session.specs.Session.{seat_of, script_of, left_of, is_stopped, IsIn, StandsAt, IsFresh, IsAt, IsSame, IsPrepared, Came};
 
     /// A session before its first command.
     pub fn new(alloc: Global, number: u32, script: Script) -> Result<Session, NoMemory>
@@ -85,6 +86,10 @@ impl Session {
         requires within { self.old.done ≤ length self.old.script }
         ensures same { IsSame self.old self.new }
         ensures at { (seen : Seen) → self.old.stopped ≡ false → IsAt (first_curve curves.now) seen self.old → IsAt (first_curve curves.now) seen self.new }
+        ensures ticks { OnOk result ((seen : Seen) (place : Place) → self.old.stopped ≡ false → IsAt (first_curve curves.now) seen self.old
+            → StandsAt (first_curve curves.now) seen self.old place → Counts (first_curve curves.now) seen Progress.Ended steps.old steps.new place self.new) }
+        ensures cut { OnErr result ((seen : Seen) (place : Place) → self.old.stopped ≡ false → IsAt (first_curve curves.now) seen self.old
+            → StandsAt (first_curve curves.now) seen self.old place → Counts (first_curve curves.now) seen Progress.Stopped steps.old steps.new place self.new) }
         ensures forward { self.old.done ≤ self.new.done }
         ensures unfinished { OnErr result (self.new.done < length self.new.script) }
         ensures next { IfOk result (λ asked. MatchOption asked (self.new.done ≡ length self.new.script) (λ next. IsPrepared next self.new)) }
@@ -147,6 +152,9 @@ impl Session {
         ensures start { (Q.seen port.new).start ≡ (Q.seen port.old).start }
         ensures at { IsAt (first_curve curves.now) (Q.seen port.new) self.new }
         ensures came { Came (first_curve curves.now) result (Q.alone port.old) (Q.seen port.old) (Q.seen port.new) self.old self.new }
+        ensures ticks { (place : Place) → StandsAt (first_curve curves.now) (Q.seen port.old) self.old place
+            → Counts (first_curve curves.now) (Q.seen port.new) result steps.old steps.new place self.new }
+        ensures idle { is_stopped self.old ≡ true → steps.new ≡ steps.old }
         ensures repeats { is_stopped self.old ≡ true → result ≡ Progress.Stopped }
     {
         if self.stopped {

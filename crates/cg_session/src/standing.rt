@@ -1,4 +1,4 @@
-ghost use Rattle.std.specs.Prelude.{◌≡◌, ◌≢◌, ◌<◌, List, [], map, option_map, position, is_some, bytes_eq, vec_len, vec_capacity, IfOk, OnOk, OnErr, MatchOption};
+ghost use Rattle.std.specs.Prelude.{◌≡◌, ◌≢◌, ◌<◌, ◌≤◌, ◌+◌, List, [], map, option_map, position, is_some, bytes_eq, vec_len, vec_capacity, IfOk, OnOk, OnErr, MatchOption};
 ghost use Rattle.cg_sharing.specs.Command as spec;
 ghost use Rattle.cg_sharing.specs.Versions.{State, head_of};
 ghost use Rattle.cg_sharing.specs.Course.{Place, act_of, with_grid, grid_of, done_at, with_base, bases_after, answered, IsFit};
@@ -96,6 +96,7 @@ pub(crate) fn spare_of(alloc: Global, command: &Command) -> Result<Option<Name>,
 
 impl Standing {
     ghost use Rattle.cg_session.specs.Standing.{first_curve, Shows, HasText};
+    ghost use Rattle.cg_session.specs.Steps.{ticks_in, prints_at};
     ghost use Rattle.cg_session.specs.Transcript.{HasRoom};
 
     /// The event of a command, if it makes one here.
@@ -151,6 +152,8 @@ impl Standing {
         requires ready { IsFit (command_in command.now) }
         ensures ok { OnOk result ((state : State) (place : Place) → HasText state self.old.version → Shows self.old place
             → Shows self.new (done_at (first_curve curves.now) state line (command_in command.now) place)) }
+        ensures ticks { (state : State) (place : Place) → HasText state self.old.version → Shows self.old place
+            → steps.new ≤ steps.old + ticks_in (prints_at (first_curve curves.now) state line (command_in command.now) place.version place.grid) }
         ensures err { OnErr result ((place : Place) → Shows self.old place → Shows self.new place) }
         ensures version { self.new.version ≡ self.old.version }
     {
@@ -200,6 +203,8 @@ impl Standing {
         requires named { name.now ≢ [] }
         ensures ok { OnOk result ((state : State) (place : Place) → HasText state self.old.version → Shows self.old place
             → Shows self.new (done_at (first_curve curves.now) state line (spec.Print name.now) place)) }
+        ensures ticks { (state : State) (place : Place) → HasText state self.old.version → Shows self.old place
+            → steps.new ≤ steps.old + ticks_in (prints_at (first_curve curves.now) state line (spec.Print name.now) place.version place.grid) }
         ensures err { OnErr result ((place : Place) → Shows self.old place → Shows self.new place) }
         ensures version { self.new.version ≡ self.old.version }
     {

@@ -6,6 +6,7 @@ use Rattle.cg_session.specs.Port.{Grows}
 use Rattle.cg_session.specs.Standing.{first_curve}
 use Rattle.cg_session.specs.Session.{IsPrepared}
 use Rattle.cg_session.proofs.AdvanceLemmas.{may_at, stopped_on, stands_stopped, ended_at, settled_at}
+use Rattle.cg_session.proofs.StepLemmas.{counts_settled}
 use Rattle.cg_session.proofs.session.Session.advance.Goals as goal
 
 pub event-reply-requires-clause-may : goal.event-reply-requires-clause-may
@@ -108,4 +109,34 @@ returns-then-self-clause-came g c =
       place = place;
       here = stands.0;
       stopped = stands_stopped curve seen c.args.self.now place c.if-self.true stands;
+    }
+
+pub returns-in-Ok-Some-clause-ticks : goal.returns-in-Ok-Some-clause-ticks
+returns-in-Ok-Some-clause-ticks g c = λ place stands.
+    let curve = first_curve c.args.curves.now in
+    let seen = g.Q.Port.seen c.args.port.now in
+    let new = g.Q.Port.seen c.event-reply.new.self in
+    let alone = g.Q.Port.alone c.args.port.now in
+    let s = c.prepare.new.self in
+    let same = c.prepare.ensures.same in
+    let next : IsPrepared c.in-Ok-Some.field-0-0 s = rw c.in-Ok-Some.field-0-is at c.in-Ok-Some.ensures.next in
+    let act = asked c.in-Ok-Some.field-0-0.event in
+    let G : ℕ → Type 0 = λ n. Grows n alone act (answered c.event-reply.result) seen new in
+    let grows = subst G (c.requires.seat ∙ sym same.number) c.event-reply.ensures.grows in
+    counts_settled curve seen new alone c.args.steps.now c.prepare.new.steps place s c.settle.new.self next.line act c.in-Ok-Some.field-0-0.spare c.settle.result (answered c.event-reply.result) (same.stopped ∙ c.if-self.false)
+    (c.prepare.ensures.at seen c.if-self.false c.requires.at) next.here next.act next.spare grows c.settle.ensures.same.0 c.settle.ensures.same.1 c.settle.ensures.came (c.in-Ok-Some.ensures.ticks seen place c.if-self.false c.requires.at stands)
+
+pub returns-in-Err-clause-ticks : goal.returns-in-Err-clause-ticks
+returns-in-Err-clause-ticks g c = λ place stands.
+    let curve = first_curve c.args.curves.now in
+    let seen = g.Q.Port.seen c.args.port.now in
+    let s = c.prepare.new.self in
+    let counts = c.in-Err.ensures.cut seen place c.if-self.false c.requires.at stands in
+    record {
+      place = stopped_at counts.place;
+      stands = stopped_on curve seen seen s (record s { stopped = true }) [] counts.place (c.prepare.ensures.same.stopped ∙ c.if-self.false) c.in-Err.ensures.unfinished tt refl (sym (append-nil seen.journal)) refl refl refl refl
+          counts.stands.0.shows counts.stands;
+      more = counts.more;
+      written = counts.written;
+      ticks = counts.ticks;
     }

@@ -1,7 +1,10 @@
 use Rattle.std.proofs.Common.{◌≡◌, ◌≤◌, ◌-◌, false, length}
 use Rattle.cg_book.specs.Plain.{Seen}
 use Rattle.cg_session.specs.Standing.{first_curve}
-use Rattle.cg_session.specs.Session.{IsAt, IsSame}
+use Rattle.cg_sharing.specs.Course.{Place}
+use Rattle.cg_session.specs.declared.session.Progress.TheVariants.{Ended}
+use Rattle.cg_session.specs.Session.{StandsAt, IsAt, IsSame}
+use Rattle.cg_session.specs.Steps.{Counts}
 use Rattle.cg_session.proofs.session.Session.prepare.Given as goal
 
 -- the same session goes on in its course
@@ -11,6 +14,8 @@ invariant-loop-self g l = record {
   within : l.self.done ≤ length l.self.script;
   forward : l.initial.self.done ≤ l.self.done;
   at : (seen : Seen) → l.initial.self.stopped ≡ false → IsAt (first_curve l.curves) seen l.initial.self → IsAt (first_curve l.curves) seen l.self;
+  counts : (seen : Seen) (place : Place) → l.initial.self.stopped ≡ false → IsAt (first_curve l.curves) seen l.initial.self → StandsAt (first_curve l.curves) seen l.initial.self place →
+      Counts (first_curve l.curves) seen Ended l.initial.steps l.steps place l.self;
 }
 
 abbrev pub decreases-loop-self : goal.decreases-loop-self

@@ -1,4 +1,4 @@
-use Rattle.std.proofs.Common.{rules, ◌≡◌, refl, sym, subst, ◌++◌}
+use Rattle.std.proofs.Common.{rules, arith, ◌≡◌, refl, sym, subst, ◌++◌}
 use Rattle.cg_sharing.specs.Texts as texts
 use Rattle.cg_sharing.specs.Texts.{refused_line}
 use Rattle.cg_sharing.specs.Pieces.{Lines}
@@ -17,6 +17,7 @@ returns-in_default g c = record {
       let new : Standing = record c.args.self.now { transcript = c.refuse.new.self } in
       let P : Place → Type 0 = λ p. Shows new p in
       subst P (sym is) (piece_shown c.args.self.now new place _ (Lines (refused_line c.args.line texts.NotOpen)) shows more refl shows.version shows.grid shows.bases);
+  ticks = λ state place text shows. omega arith;
   err = tt;
   version = refl;
 }

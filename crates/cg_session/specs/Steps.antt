@@ -1,0 +1,47 @@
+-- How many steps the marginals take that a session prints.
+use Rattle.std.specs.Prelude.{◌≡◌, ℕ, ◌+◌, ◌*◌, ◌≤◌, List, [], ◌∷◌, ◌++◌, sum_by, drop, Option}
+use Rattle.cg_meaning.specs.Tree.{root_of}
+use Rattle.cg_meaning.specs.Curve.{Curve}
+use Rattle.cg_meaning.specs.Scene.{Grid}
+use Rattle.cg_recipe.specs.Ticks.{ticks_of}
+use Rattle.cg_sharing.specs.Command as command
+use Rattle.cg_sharing.specs.Command.{Command, Line}
+use Rattle.cg_sharing.specs.Versions.{State}
+use Rattle.cg_sharing.specs.Pieces.{Print, Piece, prints_of}
+use Rattle.cg_sharing.specs.Course.{Place, print_piece}
+use Rattle.cg_book.specs.Plain.{Seen, state_of}
+use Rattle.cg_session.specs.declared.session.Session.{Session}
+use Rattle.cg_session.specs.declared.session.Progress.{Progress}
+use Rattle.cg_session.specs.declared.session.Progress.TheVariants.{Stopped}
+use Rattle.cg_session.specs.Session.{StandsAt}
+
+-- at most so many for one: those of a pass over the tree for each cell
+abbrev pub print_ticks : Print → ℕ
+print_ticks print = print.scene.grid.cells * ticks_of print.scene.grid.cells (root_of print.chronology)
+
+abbrev pub ticks_in : List Print → ℕ
+ticks_in prints = sum_by print_ticks prints
+
+-- the marginal that a command prints
+abbrev pub prints_at : Curve → State → ℕ → Command → Option ℕ → Option Grid → List Print
+prints_at curve state number (command.Print name) version grid = prints_of (print_piece curve state number name version grid ∷ [])
+prints_at curve state number other version grid = []
+
+-- that of the next command, these lines being left
+abbrev pub prints_next : Curve → State → List Line → Option ℕ → Option Grid → List Print
+prints_next curve state [] version grid = []
+prints_next curve state (line ∷ lines) version grid = prints_at curve state line.number line.command version grid
+
+-- the marginal that want of memory may have cut short
+abbrev pub cut_short : Progress → Curve → Seen → Session → Place → List Print
+cut_short Stopped curve seen session place =
+    prints_next curve (state_of seen) (drop session.done session.script) place.version place.grid
+cut_short other curve seen session place = []
+
+-- From a place on, the counter rose by at most the steps of the marginals that were printed, and of one that was cut short.
+pub record Counts (curve : Curve) (seen : Seen) (progress : Progress) (old new : ℕ) (before : Place) (after : Session) : Type 0 where
+  pub place : Place
+  pub stands : StandsAt curve seen after place
+  pub more : List Piece
+  pub written : place.written ≡ before.written ++ more
+  pub ticks : new ≤ old + ticks_in (prints_of more ++ cut_short progress curve seen after place)
