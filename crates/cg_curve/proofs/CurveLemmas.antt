@@ -5,7 +5,7 @@ use Rattle.std.proofs.lemmas.List.{reverse-reverse, length-reverse}
 use Rattle.std.proofs.lemmas.List.Elements.{All-append}
 use Rattle.cg_meaning.specs.Curve.{Row}
 use Rattle.cg_curve.specs.Lines.{data_lines}
-use Rattle.cg_curve.specs.Rows.{SayRows, IsInRange, EachNext, IsOlder, IsYounger, IsCurve}
+use Rattle.cg_curve.specs.Rows.{SayRows, IsRowInRange, EachNext, IsOlder, IsYounger, IsCurve}
 use Rattle.cg_curve.specs.File.{AreInOrder, AreGood, IsCurveFile, SaysTooFew}
 use Rattle.cg_curve.specs.Reading.{do_rise, oldest_first}
 use Rattle.cg_curve.proofs.RowLemmas.{reverse_cons, EachNext-reverse, near_reverse, lt_yes, lt_no, never, never_both}
@@ -28,7 +28,7 @@ falling rows good some falls = record { in_range = good.in_range; order = falls;
 
 rising : (rows : List Row) → AreGood rows → 2 ≤ length rows → EachNext IsYounger rows → IsCurve (reverse rows)
 rising rows good some rises = record {
-  in_range = All-reverse IsInRange rows good.in_range;
+  in_range = All-reverse IsRowInRange rows good.in_range;
   order = EachNext-reverse IsYounger rows rises;
   near = near_reverse rows good.near;
   some = omega (arith, length-reverse rows, some);

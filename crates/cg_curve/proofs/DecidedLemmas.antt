@@ -5,7 +5,7 @@ use Rattle.std.proofs.lemmas.List.{reverse-reverse, length-reverse}
 use Rattle.std.proofs.lemmas.Bool.Decides.{nat_tests}
 use Rattle.cg_meaning.specs.Curve.{Row, Curve}
 use Rattle.cg_curve.specs.Lines.{data_lines}
-use Rattle.cg_curve.specs.Rows.{row_of, SayRows, IsInRange, EachNext, IsOlder, IsYounger, IsNear, IsCurve}
+use Rattle.cg_curve.specs.Rows.{row_of, SayRows, IsRowInRange, EachNext, IsOlder, IsYounger, IsNear, IsCurve}
 use Rattle.cg_curve.specs.File.{AreInOrder, AreGood, FailsAt, SaysNone, PassesRange, BreaksOrder, LeavesGap, IsTooMany, HasFault, IsCurveFile, EachIsDecided}
 use Rattle.cg_curve.specs.Reading.{in_range, in_order, is_near, with_row, oldest_first}
 use Rattle.cg_curve.specs.declared.fault.CurveFault.{CurveFault}
@@ -84,7 +84,7 @@ order_front rows more (inr h) = inr (EachNext-front IsYounger rows more h)
 
 good_front : (rows more : List Row) → AreGood (rows ++ more) → AreGood rows
 good_front rows more good = record {
-  in_range = all_front IsInRange rows more good.in_range;
+  in_range = all_front IsRowInRange rows more good.in_range;
   order = order_front rows more good.order;
   near = EachNext-front IsNear rows more good.near;
   few = omega (arith, length-append rows more, good.few);
@@ -109,8 +109,8 @@ chain_gap number back row r o g f p q s = rw (p, q, s) refl
 chain_full : (number : ℕ) (back : List Row) (row : Row) (r o g f : Bool) → r ≡ true → o ≡ true → g ≡ true → f ≡ true → chain number back row r o g f ≡ Err (TooMany number)
 chain_full number back row r o g f p q s t = rw (p, q, s, t) refl
 
-range_true : (row : Row) → IsInRange row → in_range row ≡ true
-range_true row h = tests_true (in_range row) (IsInRange row) (range_test row) h
+range_true : (row : Row) → IsRowInRange row → in_range row ≡ true
+range_true row h = tests_true (in_range row) (IsRowInRange row) (range_test row) h
 
 order_true : (back : List Row) (row : Row) → AreGood (reverse back) → AreInOrder (reverse back ++ row ∷ []) → in_order back row.year ≡ true
 order_true back row good h = tests_true (in_order back row.year) (AreInOrder (reverse back ++ row ∷ [])) (order_test back row good.order) h
@@ -124,12 +124,12 @@ accepts number back row good =
     let full : nat_le 20000 (length back) ≡ false =
     tests_false (nat_le 20000 (length back)) (20000 < length (reverse back ++ row ∷ [])) (full_test back row) (λ h. omega (arith, h, good.few)) in
     chain_ok number back row (in_range row) (in_order back row.year) (is_near back row.year) (nat_le 20000 (length back))
-    (range_true row (last_of IsInRange (reverse back) row good.in_range)) (order_true back row before good.order) (near_true back row before good.near) full
+    (range_true row (last_of IsRowInRange (reverse back) row good.in_range)) (order_true back row before good.order) (near_true back row before good.near) full
 
 refuses_row : (number : ℕ) (back : List Row) (row : Row) (fault : CurveFault) → AreGood (reverse back) → IsCause fault number (reverse back) (Some row) → with_row number back (Some row) ≡ Err fault
 refuses_row number back row (BadRow k) good c = absurd (cc (c.1))
 refuses_row number back row (OutOfRange k) good c =
-    chain_range number back row (in_range row) (in_order back row.year) (is_near back row.year) (nat_le 20000 (length back)) (tests_false (in_range row) (IsInRange row) (range_test row) c.1)
+    chain_range number back row (in_range row) (in_order back row.year) (is_near back row.year) (nat_le 20000 (length back)) (tests_false (in_range row) (IsRowInRange row) (range_test row) c.1)
     ∙ ap (λ (n : ℕ). Err (OutOfRange n)) (sym c.0)
 refuses_row number back row (Order k) good c =
     chain_order number back row (in_range row) (in_order back row.year) (is_near back row.year) (nat_le 20000 (length back)) (range_true row c.1.0)
@@ -224,7 +224,7 @@ curve_good curve c = record { in_range = c.in_range; order = inl c.order; near =
 
 risen_good : (curve : Curve) → IsCurve curve → AreGood (reverse curve)
 risen_good curve c = record {
-  in_range = All-reverse IsInRange curve c.in_range;
+  in_range = All-reverse IsRowInRange curve c.in_range;
   order = inr (EachNext-reverse IsOlder curve c.order);
   near = near_reverse curve c.near;
   few = omega (arith, length-reverse curve, c.few);

@@ -6,9 +6,9 @@ use Rattle.std.proofs.lemmas.List.{reverse-reverse, map-append, append-nil}
 use Rattle.std.proofs.lemmas.List.Elements.{All-append}
 use Rattle.cg_meaning.specs.Curve.{Row}
 use Rattle.cg_curve.specs.Lines.{is_skipped, lines_from, data_lines}
-use Rattle.cg_curve.specs.Rows.{row_of, SayRows, IsInRange, EachNext, IsNear}
+use Rattle.cg_curve.specs.Rows.{row_of, SayRows, IsRowInRange, EachNext, IsNear}
 use Rattle.cg_curve.specs.File.{AreInOrder, AreGood, FailsAt, SaysNone, PassesRange, BreaksOrder, LeavesGap, IsTooMany, HasFault}
-use Rattle.cg_curve.specs.Reading.{in_range, in_order, is_near, with_row, with_line, Gives}
+use Rattle.cg_curve.specs.Reading.{in_range, in_order, is_near, with_row, with_line, GivesRows}
 use Rattle.cg_curve.specs.declared.fault.CurveFault.{CurveFault}
 use Rattle.cg_curve.specs.declared.fault.CurveFault.TheVariants.{BadRow, OutOfRange, Order, Gap, TooMany, TooFew, NoMemory}
 use Rattle.cg_curve.proofs.RowLemmas.{Tests, range_test, order_test, near_test, full_test, reverse_cons}
@@ -35,7 +35,7 @@ abbrev pub Outcome : ℕ → List Row → Option Row → Result (List Row) Curve
 Outcome number back said (Ok now) = Takes back now said
 Outcome number back said (Err fault) = IsCause fault number (reverse back) said
 
-one_in_range : (row : Row) → IsInRange row → (k : ℕ) (d : Row) → k < length (row ∷ []) → IsInRange (get_or (row ∷ []) k d)
+one_in_range : (row : Row) → IsRowInRange row → (k : ℕ) (d : Row) → k < length (row ∷ []) → IsRowInRange (get_or (row ∷ []) k d)
 one_in_range row h zero d lt = h
 one_in_range row h (suc k) d lt = absurd (omega arith)
 
@@ -43,7 +43,7 @@ at_most : (a b : ℕ) → ¬ (b < a) → a ≤ b
 at_most a b h = omega (arith, h)
 
 -- the first of the tests that fails decides
-by_tests : (number : ℕ) (back : List Row) (row : Row) (r o g f : Bool) → AreGood (reverse back) → Tests r (IsInRange row)
+by_tests : (number : ℕ) (back : List Row) (row : Row) (r o g f : Bool) → AreGood (reverse back) → Tests r (IsRowInRange row)
     → Tests o (AreInOrder (reverse back ++ row ∷ [])) → Tests g (EachNext IsNear (reverse back ++ row ∷ [])) → Tests f (20000 < length (reverse back ++ row ∷ []))
     → Outcome number back (Some row) (cond (not r) (Err (OutOfRange number)) (cond (not o) (Err (Order number)) (cond (not g) (Err (Gap number)) (cond f (Err (TooMany number)) (Ok (row ∷ back))))))
 by_tests number back row false o g f good tr to tg tf = (refl, tr)
@@ -55,7 +55,7 @@ by_tests number back row true true true false good tr to tg tf = record {
   says = refl;
   grows = reverse_cons row back;
   good = record {
-    in_range = All-append IsInRange (reverse back) (row ∷ []) good.in_range (one_in_range row tr);
+    in_range = All-append IsRowInRange (reverse back) (row ∷ []) good.in_range (one_in_range row tr);
     order = to;
     near = tg;
     few = at_most (length (reverse back ++ row ∷ [])) 20000 tf;
@@ -156,7 +156,7 @@ fault_in bytes before others number line rows (TooMany k) parted said good c = f
 fault_in bytes before others number line rows TooFew parted said good c = absurd c
 fault_in bytes before others number line rows NoMemory parted said good c = absurd c
 
-err_given : (wanted : Result (List Row) CurveFault) (now : List Row) (fault : CurveFault) → Gives wanted now (Err fault) → (fault ≡ NoMemory → ⊥) → wanted ≡ Err fault
+err_given : (wanted : Result (List Row) CurveFault) (now : List Row) (fault : CurveFault) → GivesRows wanted now (Err fault) → (fault ≡ NoMemory → ⊥) → wanted ≡ Err fault
 err_given wanted now (BadRow k) h other = h
 err_given wanted now (OutOfRange k) h other = h
 err_given wanted now (Order k) h other = h
@@ -177,7 +177,7 @@ refuse_by bytes rest behind number line rows fault false e so_far split h =
 
 -- a line that is refused has the first fault
 pub line_refused : (bytes rest behind : List ℕ) (number : ℕ) (line : List ℕ) (rows now : List Row) (fault : CurveFault) → SoFar bytes rest number rows → lines rest ≡ line ∷ lines behind
-    → Gives (with_line number (reverse rows) line) now (Err fault) → (fault ≡ NoMemory → ⊥) → HasFault bytes fault
+    → GivesRows (with_line number (reverse rows) line) now (Err fault) → (fault ≡ NoMemory → ⊥) → HasFault bytes fault
 line_refused bytes rest behind number line rows now fault so_far split h other =
     refuse_by bytes rest behind number line rows fault (is_skipped line) refl so_far split (err_given (with_line number (reverse rows) line) now fault h other)
 

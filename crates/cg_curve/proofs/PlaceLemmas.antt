@@ -6,7 +6,7 @@ use Rattle.std.specs.declared.cmp.Ordering.TheVariants.{Less, Equal, Greater}
 use Rattle.std.proofs.lemmas.Int.{ints}
 use Rattle.std.proofs.lemmas.List.{drop_all}
 use Rattle.cg_meaning.specs.Curve.{Row, point_at, point_at_row, point_between}
-use Rattle.cg_curve.specs.Rows.{IsInRange, EachNext, IsOlder}
+use Rattle.cg_curve.specs.Rows.{IsRowInRange, EachNext, IsOlder}
 use Rattle.cg_curve.specs.Point.{IsBetween}
 use Rattle.cg_curve.proofs.RowLemmas.{lt_true, lt_false}
 
@@ -193,5 +193,5 @@ next_at_place Next rows (suc q) older younger each lt some o y =
     let e : suc q - 1 ≡ q = omega arith in
     next_at Next rows q older younger each lt (subst (λ (k : ℕ). older ≡ get_or rows k older) e o) y
 
-pub range_at : (rows : List Row) (place : ℕ) (row : Row) → All IsInRange rows → place < length rows → row ≡ get_or rows place row → IsInRange row
-range_at rows place row each lt e = subst (λ (r : Row). IsInRange r) (sym e) (each place row lt)
+pub range_at : (rows : List Row) (place : ℕ) (row : Row) → All IsRowInRange rows → place < length rows → row ≡ get_or rows place row → IsRowInRange row
+range_at rows place row each lt e = subst (λ (r : Row). IsRowInRange r) (sym e) (each place row lt)

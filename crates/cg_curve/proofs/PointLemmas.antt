@@ -3,7 +3,7 @@ use Rattle.std.proofs.Common.{◌≡◌, ℕ, zero, suc, ◌+◌, ◌≤◌, ref
 use Rattle.std.proofs.Common.{subst}
 use Rattle.std.proofs.Math.Nat.{mul-le-mul}
 use Rattle.cg_meaning.specs.Curve.{Row, point_between}
-use Rattle.cg_curve.specs.Rows.{IsInRange, IsNear}
+use Rattle.cg_curve.specs.Rows.{IsRowInRange, IsNear}
 use Rattle.cg_curve.specs.Point.{point_of, IsWithin}
 use Rattle.cg_curve.specs.declared.curve.At.{At}
 use Rattle.std.proofs.lemmas.Int.{ints, fits_signed_mul, unsigned_abs-mul}
@@ -70,7 +70,7 @@ pub record IsLine (a b : Row) (year : ℤ) (at : At) : Type 0 where
 pub line_value : (a b : Row) (year : ℤ) (at : At) → IsLine a b year at → point_of at ≡ point_between a b year
 line_value a b year at line = rw (line.age, line.sigma, line.gap) refl
 
-pub line_within : (a b : Row) (year : ℤ) (at : At) → b.year <ℤ year → year <ℤ a.year → IsNear a b → IsInRange a → IsInRange b → IsLine a b year at → IsWithin at
+pub line_within : (a b : Row) (year : ℤ) (at : At) → b.year <ℤ year → year <ℤ a.year → IsNear a b → IsRowInRange a → IsRowInRange b → IsLine a b year at → IsWithin at
 line_within a b year at below above near ra rb line = record {
   gap_low = rw line.gap (some_gap a.year b.year year below above);
   gap_high = rw line.gap near;

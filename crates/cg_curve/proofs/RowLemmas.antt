@@ -7,7 +7,7 @@ use Rattle.std.proofs.lemmas.List.{reverse-append, reverse-reverse, length-rever
 use Rattle.std.proofs.lemmas.Bool.Decides.{nat_tests}
 use Rattle.std.proofs.lemmas.Int.{ints}
 use Rattle.cg_meaning.specs.Curve.{Row}
-use Rattle.cg_curve.specs.Rows.{IsInRange, EachNext, IsOlder, IsYounger, IsNear}
+use Rattle.cg_curve.specs.Rows.{IsRowInRange, EachNext, IsOlder, IsYounger, IsNear}
 use Rattle.cg_curve.specs.File.{AreInOrder}
 use Rattle.cg_curve.specs.Reading.{in_range, in_order, is_near}
 
@@ -124,7 +124,7 @@ le_no : (a b : ℕ) → nat_le a b ≡ false → ¬ (a ≤ b)
 le_no a b e h = grind (arith, nat_tests)
 
 range_by : (row : Row) (a b c d : Bool) → int_lt row.age (negsuc 9999999) ≡ a → int_lt (pos 70000000) row.age ≡ b → int_lt row.sigma (pos 0) ≡ c → int_lt (pos 10000000) row.sigma ≡ d
-    → Tests (not a && (not b && (not c && not d))) (IsInRange row)
+    → Tests (not a && (not b && (not c && not d))) (IsRowInRange row)
 range_by row true b c d e f g h = λ r. never row.age (negsuc 9999999) (lt_yes row.age (negsuc 9999999) e) r.age_low
 range_by row false true c d e f g h = λ r. never (pos 70000000) row.age (lt_yes (pos 70000000) row.age f) r.age_high
 range_by row false false true d e f g h = λ r. never row.sigma (pos 0) (lt_yes row.sigma (pos 0) g) r.sigma_low
@@ -137,7 +137,7 @@ range_by row false false false false e f g h = record {
 }
 
 -- whether a row is in range
-pub range_test : (row : Row) → Tests (in_range row) (IsInRange row)
+pub range_test : (row : Row) → Tests (in_range row) (IsRowInRange row)
 range_test row = range_by row (int_lt row.age (negsuc 9999999)) (int_lt (pos 70000000) row.age) (int_lt row.sigma (pos 0)) (int_lt (pos 10000000) row.sigma) refl refl refl refl
 
 falls_on : (row last before : Row) (rows : List Row) (v : Bool) → int_lt row.year last.year ≡ v → EachNext IsYounger (last ∷ before ∷ rows) → Tests v (GoOneWay (row ∷ last ∷ before ∷ rows))

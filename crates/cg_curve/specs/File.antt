@@ -2,7 +2,7 @@
 use Rattle.std.specs.Prelude.{◌≡◌, ℕ, ◌<◌, ◌≤◌, ◌⊎◌, List, [], ◌∷◌, ◌++◌, length, All, Option, Some, None, reverse}
 use Rattle.cg_meaning.specs.Curve.{Row, Curve}
 use Rattle.cg_curve.specs.Lines.{data_lines}
-use Rattle.cg_curve.specs.Rows.{row_of, SayRows, IsInRange, EachNext, IsOlder, IsYounger, IsNear, IsCurve}
+use Rattle.cg_curve.specs.Rows.{row_of, SayRows, IsRowInRange, EachNext, IsOlder, IsYounger, IsNear, IsCurve}
 use Rattle.cg_curve.specs.declared.fault.CurveFault.{CurveFault}
 use Rattle.cg_curve.specs.declared.fault.CurveFault.TheVariants.{BadRow, OutOfRange, Order, Gap, TooMany, TooFew, NoMemory}
 
@@ -17,7 +17,7 @@ AreInOrder rows = EachNext IsOlder rows ⊎ EachNext IsYounger rows
 
 -- Rows in the order of a file with nothing wrong so far.
 pub record AreGood (rows : List Row) : Type 0 where
-  pub in_range : All IsInRange rows
+  pub in_range : All IsRowInRange rows
   pub order : AreInOrder rows
   pub near : EachNext IsNear rows
   pub few : length rows ≤ 20000
@@ -51,20 +51,20 @@ SaysNone rows said = said ≡ None
 
 -- the row isn't in range
 abbrev pub PassesRange : List Row → Option Row → Type 0
-PassesRange rows said = IfSaid said (λ row. ¬ IsInRange row)
+PassesRange rows said = IfSaid said (λ row. ¬ IsRowInRange row)
 
 -- the row is in range, and not in the order of the rows before it
 abbrev pub BreaksOrder : List Row → Option Row → Type 0
-BreaksOrder rows said = IfSaid said (λ row. IsInRange row × (¬ AreInOrder (rows ++ row ∷ [])))
+BreaksOrder rows said = IfSaid said (λ row. IsRowInRange row × (¬ AreInOrder (rows ++ row ∷ [])))
 
 -- the row is in range and in order, and too far from the row before it
 abbrev pub LeavesGap : List Row → Option Row → Type 0
-LeavesGap rows said = IfSaid said (λ row. IsInRange row × AreInOrder (rows ++ row ∷ []) × (¬ EachNext IsNear (rows ++ row ∷ [])))
+LeavesGap rows said = IfSaid said (λ row. IsRowInRange row × AreInOrder (rows ++ row ∷ []) × (¬ EachNext IsNear (rows ++ row ∷ [])))
 
 -- nothing is wrong with the row but that 20,000 come before it
 abbrev pub IsTooMany : List Row → Option Row → Type 0
 IsTooMany rows said =
-    IfSaid said (λ row. IsInRange row × AreInOrder (rows ++ row ∷ []) × EachNext IsNear (rows ++ row ∷ []) × (20000 < length (rows ++ row ∷ [])))
+    IfSaid said (λ row. IsRowInRange row × AreInOrder (rows ++ row ∷ []) × EachNext IsNear (rows ++ row ∷ []) × (20000 < length (rows ++ row ∷ [])))
 
 -- the first line of the bytes that has a fault, and there the first cause that holds; want of memory is no fault of theirs
 abbrev pub HasFault : List ℕ → CurveFault → Type 0

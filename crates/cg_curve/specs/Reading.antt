@@ -66,15 +66,15 @@ abbrev pub with_line : ℕ → List Row → List ℕ → Result (List Row) Curve
 with_line number rows line = if is_skipped line then Ok rows else with_row number rows (row_of line)
 
 -- a call that may want memory answers this, and leaves these rows where it is Ok
-abbrev pub Gives : Result (List Row) CurveFault → List Row → Result (Unit {0}) CurveFault → Type 0
-Gives wanted rows (Ok done) = wanted ≡ Ok rows
-Gives wanted rows (Err NoMemory) = Unit {0}
-Gives wanted rows (Err (BadRow n)) = wanted ≡ Err (BadRow n)
-Gives wanted rows (Err (OutOfRange n)) = wanted ≡ Err (OutOfRange n)
-Gives wanted rows (Err (Order n)) = wanted ≡ Err (Order n)
-Gives wanted rows (Err (Gap n)) = wanted ≡ Err (Gap n)
-Gives wanted rows (Err (TooMany n)) = wanted ≡ Err (TooMany n)
-Gives wanted rows (Err TooFew) = wanted ≡ Err TooFew
+abbrev pub GivesRows : Result (List Row) CurveFault → List Row → Result (Unit {0}) CurveFault → Type 0
+GivesRows wanted rows (Ok done) = wanted ≡ Ok rows
+GivesRows wanted rows (Err NoMemory) = Unit {0}
+GivesRows wanted rows (Err (BadRow n)) = wanted ≡ Err (BadRow n)
+GivesRows wanted rows (Err (OutOfRange n)) = wanted ≡ Err (OutOfRange n)
+GivesRows wanted rows (Err (Order n)) = wanted ≡ Err (Order n)
+GivesRows wanted rows (Err (Gap n)) = wanted ≡ Err (Gap n)
+GivesRows wanted rows (Err (TooMany n)) = wanted ≡ Err (TooMany n)
+GivesRows wanted rows (Err TooFew) = wanted ≡ Err TooFew
 
 -- whether the second row is older than the first
 abbrev pub do_rise : List Row → Bool

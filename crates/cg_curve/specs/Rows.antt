@@ -35,7 +35,7 @@ abbrev pub SayRows : List (ℕ × List ℕ) → List Row → Type 0
 SayRows lines rows = map (λ line. row_of line.1) lines ≡ map (λ row. Some row) rows
 
 -- an age within -10,000 to 70,000, and a sigma within 0 to 10,000
-pub record IsInRange (row : Row) : Type 0 where
+pub record IsRowInRange (row : Row) : Type 0 where
   pub age_low : negsuc 9999999 ≤ℤ row.age
   pub age_high : row.age ≤ℤ pos 70000000
   pub sigma_low : pos 0 ≤ℤ row.sigma
@@ -61,7 +61,7 @@ IsNear row next = unsigned_abs (row.year -ℤ next.year) ≤ 1000
 
 -- The rows are a curve, the oldest first: in range, in strict order, without a wide gap, and 2 to 20,000.
 pub record IsCurve (rows : Curve) : Type 0 where
-  pub in_range : All IsInRange rows
+  pub in_range : All IsRowInRange rows
   pub order : EachNext IsOlder rows
   pub near : EachNext IsNear rows
   pub some : 2 ≤ length rows

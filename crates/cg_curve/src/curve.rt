@@ -1,6 +1,6 @@
 ghost use Rattle.std.specs.Prelude.{◌≡◌, ◌<◌, ◌≤◌, ◌-◌, ◌↔◌, ℤ, ◌+ℤ◌, ◌*ℤ◌, ◌<ℤ◌, option_map, unsigned_abs, IsSome, IfSome};
 ghost use Rattle.cg_meaning.specs.Curve.{point_at, point_at_row, point_between};
-ghost use Rattle.cg_curve.specs.Rows.{IsCurve, IsInRange, IsNear, Covers};
+ghost use Rattle.cg_curve.specs.Rows.{IsCurve, IsRowInRange, IsNear, Covers};
 ghost use Rattle.cg_curve.specs.Point.{point_of, IsWithin, IsBetween};
 
 use crate::row::Row;
@@ -92,7 +92,7 @@ fn at_year(rows: &[Row], bp: i32) -> Option<At>
 }
 
 fn at_row(row: Row) -> At
-    requires { IsInRange row }
+    requires { IsRowInRange row }
     ensures value { point_of result ≡ point_at_row row }
     ensures within { IsWithin result }
 {
@@ -108,8 +108,8 @@ fn between(older: Row, younger: Row, bp: i32) -> At
     requires below { younger.year <ℤ bp }
     requires above { bp <ℤ older.year }
     requires near { IsNear older younger }
-    requires older { IsInRange older }
-    requires younger { IsInRange younger }
+    requires older { IsRowInRange older }
+    requires younger { IsRowInRange younger }
     ensures value { point_of result ≡ point_between older younger bp }
     ensures within { IsWithin result }
 {

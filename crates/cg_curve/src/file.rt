@@ -2,7 +2,7 @@ ghost use Rattle.std.specs.Prelude.{◌≡◌, ◌≢◌, ◌<◌, ◌-◌, ◌^
 ghost use Rattle.cg_curve.specs.File.{IsCurveFile, HasFault, AreGood};
 ghost use Rattle.cg_curve.specs.Lines.{data_lines};
 ghost use Rattle.cg_curve.specs.Rows.{SayRows};
-ghost use Rattle.cg_curve.specs.Reading.{in_range, in_order, is_near, with_row, with_line, Gives, do_rise, oldest_first};
+ghost use Rattle.cg_curve.specs.Reading.{in_range, in_order, is_near, with_row, with_line, GivesRows, do_rise, oldest_first};
 
 use crate::curve::Curve;
 use crate::fault::CurveFault;
@@ -60,7 +60,7 @@ fn push_row(rows: &mut Vec<Row>, row: Row) -> Result<(), CurveFault>
 
 /// Adds the row of a line behind the others.
 fn take_row(rows: &mut Vec<Row>, line: u32, row: Option<Row>) -> Result<(), CurveFault>
-    ensures { Gives (with_row line (reverse rows.old.items) row) (reverse rows.new.items) result }
+    ensures { GivesRows (with_row line (reverse rows.old.items) row) (reverse rows.new.items) result }
 {
     let Some(row) = row else {
         return Err(CurveFault::BadRow(line));
@@ -82,7 +82,7 @@ fn take_row(rows: &mut Vec<Row>, line: u32, row: Option<Row>) -> Result<(), Curv
 
 /// Adds the row of a line, if it holds data.
 fn take_line(rows: &mut Vec<Row>, number: u32, line: &[u8]) -> Result<(), CurveFault>
-    ensures { Gives (with_line number (reverse rows.old.items) line.now) (reverse rows.new.items) result }
+    ensures { GivesRows (with_line number (reverse rows.old.items) line.now) (reverse rows.new.items) result }
 {
     if is_skipped(line) {
         return Ok(());

@@ -57,7 +57,7 @@ impl<O: Open + Drop> Shelf for FileShelf<O> {
         ensures later { self.old.faults ≤ self.new.faults }
         ensures cause { result ≡ Err ShelfFault.Failed → Rose self.old.faults self.new.faults }
         ensures faults { self.new.faults ≡ faults_counted self.old.faults result }
-        // The answer is for this very name and limit.
+        // Of files that are told, the answer is for this very name and limit.
         ensures rest { AppendsRest (O.told self.old.files name.now) limit
             into.old.items into.new.items result }
     {

@@ -47,7 +47,7 @@ pub fn write_whole<K: Sink>(sink: &mut K, text: &[u8]) -> Written
     ensures taken { Takes (K.taken sink.old) (K.taken sink.new) (take result.taken text.now) }
     ensures later { K.faults sink.old ≤ K.faults sink.new }
     ensures cause { IsTrue result.failed → Rose (K.faults sink.old) (K.faults sink.new) }
-    // Nothing is written after a write that failed.
+    // No write failed where all of the text was taken, and else one.
     ensures counted { K.faults sink.new ≡
         (if result.failed then one_more (K.faults sink.old) else K.faults sink.old) }
 {

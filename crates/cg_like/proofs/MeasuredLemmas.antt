@@ -12,7 +12,7 @@ use Rattle.cg_meaning.specs.Scene.{Scene, year_of}
 use Rattle.cg_meaning.specs.Weights.{Distance, square, from_year, from_curve, distance_of}
 use Rattle.cg_meaning.specs.Cover.{CoverFault, is_far, fault_at, or_fault, fault_from, on_curve, IsCovered}
 use Rattle.cg_model.specs.Limits as limits
-use Rattle.cg_curve.specs.Rows.{IsInRange, EachNext, IsNear}
+use Rattle.cg_curve.specs.Rows.{IsRowInRange, EachNext, IsNear}
 use Rattle.cg_curve.specs.Point.{IsWithin}
 use Rattle.cg_curve.specs.declared.curve.At.{At}
 use Rattle.cg_curve.proofs.RowLemmas.{lt_yes}
@@ -74,7 +74,7 @@ reached year (Some d) e = record { near = by_test d.p ((16384000 * d.gap) * (163
 abbrev at_of : Point → At
 at_of point = record { age = point.age; sigma = point.sigma; gap = point.gap }
 
-row_within : (row : Row) → IsInRange row → IsWithin (at_of (point_at_row row))
+row_within : (row : Row) → IsRowInRange row → IsWithin (at_of (point_at_row row))
 row_within row r = record {
   gap_low = omega arith;
   gap_high = omega arith;
@@ -84,7 +84,7 @@ row_within row r = record {
   sigma_high = let a = r.sigma_high in omega (arith, ints);
 }
 
-between_within : (older younger : Row) (year : ℤ) → younger.year <ℤ year → year <ℤ older.year → IsNear older younger → IsInRange older → IsInRange younger → IsWithin (at_of (point_between older younger year))
+between_within : (older younger : Row) (year : ℤ) → younger.year <ℤ year → year <ℤ older.year → IsNear older younger → IsRowInRange older → IsRowInRange younger → IsWithin (at_of (point_between older younger year))
 between_within older younger year below above near ro ry =
     line_within older younger year (at_of (point_between older younger year)) below above near ro ry (record { age = refl; sigma = refl; gap = refl })
 
@@ -103,13 +103,13 @@ by_test : (a : Bool) (x : Point) → IsWithin (at_of x) → IsWithinAt (cond a (
 by_test true x h = h
 by_test false x h = tt
 
-point_within : (rows : List Row) (year : ℤ) → All IsInRange rows → EachNext IsNear rows → IsWithinAt (point_at rows year)
+point_within : (rows : List Row) (year : ℤ) → All IsRowInRange rows → EachNext IsNear rows → IsWithinAt (point_at rows year)
 point_within [] year ranged near = tt
-point_within (row ∷ []) year ranged near = by_test (int_eq row.year year) (point_at_row row) (row_within row (All-head IsInRange row [] ranged))
+point_within (row ∷ []) year ranged near = by_test (int_eq row.year year) (point_at_row row) (row_within row (All-head IsRowInRange row [] ranged))
 point_within (older ∷ younger ∷ rows) year ranged near =
-    let ro = All-head IsInRange older (younger ∷ rows) ranged in
-    let rest = All-tail IsInRange older (younger ∷ rows) ranged in
-    let ry = All-head IsInRange younger rows rest in
+    let ro = All-head IsRowInRange older (younger ∷ rows) ranged in
+    let rest = All-tail IsRowInRange older (younger ∷ rows) ranged in
+    let ry = All-head IsRowInRange younger rows rest in
     by_tests (int_eq older.year year) (int_lt younger.year year) (int_lt year older.year) (point_at_row older) (point_between older younger year) (point_at (younger ∷ rows) year)
     (row_within older ro) (λ b c. between_within older younger year (lt_yes younger.year year b) (lt_yes year older.year c) near.0 ro ry)
     (point_within (younger ∷ rows) year rest near.1)

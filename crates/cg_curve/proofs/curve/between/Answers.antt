@@ -1,7 +1,7 @@
 use Rattle.std.proofs.Common.{◌≡◌, ◌∙◌, ap, subst, sym, arith, ℤ, ◌-ℤ◌, ◌+ℤ◌, ◌*ℤ◌, ◌<ℤ◌, ◌≤◌, FitsSigned, unsigned_abs, w32, w64, to_z, of_z}
 use Rattle.std.proofs.lemmas.Int.{ints, to_z-of_z}
 use Rattle.cg_meaning.specs.Curve.{Row}
-use Rattle.cg_curve.specs.Rows.{IsInRange}
+use Rattle.cg_curve.specs.Rows.{IsRowInRange}
 use Rattle.cg_curve.proofs.PointLemmas.{IsLine, line_value, line_within, same_line, IsInGap, age_fits, sigma_fits, older_fits, younger_fits, passed_fits, left_fits}
 use Rattle.cg_curve.proofs.curve.between.Goals as goal
 
@@ -29,8 +29,8 @@ numbers c =
     let ya = ap (λ (r : Row). r.age) c.younger.view_is in
     let os = ap (λ (r : Row). r.sigma) c.older.view_is in
     let ys = ap (λ (r : Row). r.sigma) c.younger.view_is in
-    let ro = subst (λ (r : Row). IsInRange r) (sym c.older.view_is) c.requires.older in
-    let ry = subst (λ (r : Row). IsInRange r) (sym c.younger.view_is) c.requires.younger in
+    let ro = subst (λ (r : Row). IsRowInRange r) (sym c.older.view_is) c.requires.older in
+    let ry = subst (λ (r : Row). IsRowInRange r) (sym c.younger.view_is) c.requires.younger in
     let gap : IsInGap o.year y.year year = record {
       below = subst (λ (z : ℤ). z <ℤ year) (sym yy) (subst (λ (z : ℤ). c.args.younger.year <ℤ z) (sym t) c.requires.below);
       above = subst (λ (z : ℤ). year <ℤ z) (sym oy) (subst (λ (z : ℤ). z <ℤ c.args.older.year) (sym t) c.requires.above);

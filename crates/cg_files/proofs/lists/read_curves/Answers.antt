@@ -1,7 +1,7 @@
 use Rattle.std.proofs.Common.{◌+◌, ◌∷◌, [], map, take, sym, ap, subst, ◌∙◌, arith, take_all}
 use Rattle.std.proofs.lemmas.List.{map-append}
 use Rattle.std.proofs.lemmas.Result.{err_from_is_err_and}
-use Rattle.cg_curve.specs.Curves.{NamedCurve, IsSameName}
+use Rattle.cg_curve.specs.Curves.{NamedCurve, IsSameCurveName}
 use Rattle.cg_files.specs.Said.{a_curve}
 use Rattle.cg_files.specs.Reading.{AreRead}
 use Rattle.cg_files.specs.Inputs.{names_of, curve_files, said_of_curves}
@@ -34,7 +34,7 @@ push-requires-clause-few g c =
 pub push-requires-clause-new : goal.push-requires-clause-new
 push-requires-clause-new g c =
     new_name c.args.named.now c.loop-place.place c.index-named-place.result c.index-named-place.is c.loop-place-test.true (λ (one : NamedCurve). one.name) c.loop-place.curves
-    (λ a b. ¬ IsSameName a b) c.as_bytes.result.now (c.as_bytes.ensures.value ∙ c.name.ensures.name) c.loop-place.invariant.names c.requires.distinct
+    (λ a b. ¬ IsSameCurveName a b) c.as_bytes.result.now (c.as_bytes.ensures.value ∙ c.name.ensures.name) c.loop-place.invariant.names c.requires.distinct
 
 pub loop-place-preserved : goal.loop-place-preserved
 loop-place-preserved g c =
