@@ -3,7 +3,7 @@ use Rattle.std.proofs.Common.{◌≡◌, ℕ, ◌+◌, List, [], ◌∷◌, ◌+
 use Rattle.cg_io.specs.Shelf.{Files, after_read}
 use Rattle.cg_files.specs.Shelf.{later, Reads, Finds, Misses}
 use Rattle.cg_files.specs.Said.{Said, HasCause}
-use Rattle.cg_files.specs.Reading.{File, Accepts, AcceptsAll, Reaches, EndsWith, AreRead}
+use Rattle.cg_files.specs.Reading.{File, Accepts, AcceptsAll, ComesTo, EndsWith, AreRead}
 use Rattle.cg_files.specs.declared.file.FileCause.{FileCause}
 use Rattle.cg_files.specs.declared.file.FileFault.{FileFault}
 use Rattle.cg_files.specs.declared.file.FileFault.TheVariants.{Failed, Refused, NoMemory}
@@ -62,8 +62,8 @@ module _ (told now last : Option Files) (xs ys : List File) (s : List Said) (rea
     reads = subst (λ n. Reads n told last) (sym (length-append xs ys)) (Reads-add (length xs) (length ys) told now last read.reads more.reads);
   }
 
-  abbrev reaches_more : (file : File) → Reaches now ys file → Reaches told (xs ++ ys) file
-  reaches_more file earlier = record {
+  abbrev comes_to_more : (file : File) → ComesTo now ys file → ComesTo told (xs ++ ys) file
+  comes_to_more file earlier = record {
     before = xs ++ earlier.before;
     behind = earlier.behind;
     said = s ++ earlier.said;
@@ -87,7 +87,7 @@ module _ (told now last : Option Files) (xs ys : List File) (s : List Said) (rea
       record {
         cause = record {
           name = cause.name;
-          earlier = reaches_more (record { ref = ref; name = cause.name }) cause.earlier;
+          earlier = comes_to_more (record { ref = ref; name = cause.name }) cause.earlier;
           missed = subst (λ o. Misses o cause.name) (later_more before)
               (carry (λ o. Misses (later (length before) o) cause.name) (length xs) told now (λ _. misses_none (length before) cause.name) read.reads cause.missed);
         };
@@ -99,7 +99,7 @@ module _ (told now last : Option Files) (xs ys : List File) (s : List Said) (rea
         refusal = record {
           name = cause.name;
           bytes = cause.bytes;
-          earlier = reaches_more (record { ref = ref; name = cause.name }) cause.earlier;
+          earlier = comes_to_more (record { ref = ref; name = cause.name }) cause.earlier;
           found = subst (λ o. Finds o cause.name cause.bytes) (later_more before)
               (carry (λ o. Finds (later (length before) o) cause.name cause.bytes) (length xs) told now (λ _. finds_none (length before) cause.name cause.bytes) read.reads cause.found);
           refused = cause.refused;
@@ -109,8 +109,8 @@ module _ (told now last : Option Files) (xs ys : List File) (s : List Said) (rea
   ends_more NoMemory end = tt
 
 module _ (told now : Option Files) (xs ys : List File) where
-  abbrev reaches_before : (file : File) → Reaches told xs file → Reaches told (xs ++ ys) file
-  reaches_before file earlier = record {
+  abbrev comes_to_before : (file : File) → ComesTo told xs file → ComesTo told (xs ++ ys) file
+  comes_to_before file earlier = record {
     before = earlier.before;
     behind = earlier.behind ++ ys;
     said = earlier.said;
@@ -123,7 +123,7 @@ module _ (told now : Option Files) (xs ys : List File) where
   ends_before (Failed ref) end = record {
     cause = record {
       name = end.cause.name;
-      earlier = reaches_before (record { ref = ref; name = end.cause.name }) end.cause.earlier;
+      earlier = comes_to_before (record { ref = ref; name = end.cause.name }) end.cause.earlier;
       missed = end.cause.missed;
     };
     reads = end.reads;
@@ -132,7 +132,7 @@ module _ (told now : Option Files) (xs ys : List File) where
     refusal = record {
       name = end.refusal.name;
       bytes = end.refusal.bytes;
-      earlier = reaches_before (record { ref = ref; name = end.refusal.name }) end.refusal.earlier;
+      earlier = comes_to_before (record { ref = ref; name = end.refusal.name }) end.refusal.earlier;
       found = end.refusal.found;
       refused = end.refusal.refused;
     };

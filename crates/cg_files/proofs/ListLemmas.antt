@@ -37,10 +37,17 @@ module _ {A : Type 0} (kind : FileKind) (path : A → List ℕ) (xs : List A) (k
       ∙ files_from-append kind 1 (map path (take (k + 1) xs)) (map path (drop (k + 1) xs))
 
   module _ (told now last : Option Files) (said : List Said) (name : List ℕ) (same : name ≡ path x) (read : AreRead told now (files (take k xs)) said) where
-    pub read_next : (next : Said) → AreRead now last (file_as kind (k + 1) name ∷ []) (next ∷ []) → AreRead told last (files (take (k + 1) xs)) (said ++ next ∷ [])
+    read_next : (next : Said) → AreRead now last (file_as kind (k + 1) name ∷ []) (next ∷ []) → AreRead told last (files (take (k + 1) xs)) (said ++ next ∷ [])
     read_next next one =
         subst (λ fs. AreRead told last fs (said ++ next ∷ [])) (sym first_files)
         (read_more told now last (files (take k xs)) (file_as kind (k + 1) (path x) ∷ []) said read (next ∷ []) (subst (λ n. AreRead now last (file_as kind (k + 1) n ∷ []) (next ∷ [])) same one))
+
+    -- the same where what the files say is what a list of items says, and one was pushed
+    pub read_pushed : {B : Type 0} (said_of : B → Said) (items pushed : List B) (next : B) → said ≡ map said_of items → pushed ≡ items ++ next ∷ [] →
+        AreRead now last (file_as kind (k + 1) name ∷ []) (said_of next ∷ []) → AreRead told last (files (take (k + 1) xs)) (map said_of pushed)
+    read_pushed said_of items pushed next so_far more one =
+        subst (λ s. AreRead told last (files (take (k + 1) xs)) s) (ap (λ s. s ++ said_of next ∷ []) so_far ∙ sym (ap (map said_of) more ∙ map-append said_of items (next ∷ [])))
+        (read_next (said_of next) one)
 
     pub ends_next : (fault : FileFault) → EndsWith now last (file_as kind (k + 1) name ∷ []) fault → EndsWith told last (files xs) fault
     ends_next fault end =
@@ -51,9 +58,14 @@ module _ {A : Type 0} (kind : FileKind) (path : A → List ℕ) (xs : List A) (k
 
 -- the names of the files up to a place, and the next one
 module _ (named : List NamedFile) (k : ℕ) (x : NamedFile) (is : x ≡ get_or named k x) (within : k < length named) where
-  pub names_next : (names : List (List ℕ)) (name : List ℕ) → name ≡ x.name → names ≡ names_of (take k named) → names ++ name ∷ [] ≡ names_of (take (k + 1) named)
+  names_next : (names : List (List ℕ)) (name : List ℕ) → name ≡ x.name → names ≡ names_of (take k named) → names ++ name ∷ [] ≡ names_of (take (k + 1) named)
   names_next names name same so_far =
       ap₂ (λ ns n. ns ++ n ∷ []) so_far same ∙ sym (map-append (λ one. one.name) (take k named) (x ∷ [])) ∙ ap names_of (sym (take_more named k x within ∙ ap (λ y. take k named ++ y ∷ []) (sym is)))
+
+  pub names_pushed : {A : Type 0} (name_of : A → List ℕ) (items pushed : List A) (next : A) → pushed ≡ items ++ next ∷ [] → name_of next ≡ x.name →
+      map name_of items ≡ names_of (take k named) → map name_of pushed ≡ names_of (take (k + 1) named)
+  names_pushed name_of items pushed next more same so_far =
+      ap (map name_of) more ∙ map-append name_of items (next ∷ []) ∙ names_next (map name_of items) (name_of next) same so_far
 
   pub few_names : {A : Type 0} (name_of : A → List ℕ) (items : List A) → map name_of items ≡ names_of (take k named) → length items ≡ k
   few_names name_of items so_far =

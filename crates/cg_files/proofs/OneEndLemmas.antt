@@ -4,8 +4,8 @@ use Rattle.cg_io.specs.Shelf.{Files, Gives, after_read}
 use Rattle.cg_curve.specs.declared.fault.CurveFault.{CurveFault}
 use Rattle.cg_curve.proofs.DecidedLemmas.{each_is_decided}
 use Rattle.cg_files.specs.Shelf.{limit, later, Finds, Misses}
-use Rattle.cg_files.specs.Said.{Said, a_curve, a_model, a_script, Says, line_of, HasCause}
-use Rattle.cg_files.specs.Reading.{File, Accepts, AcceptsAll, Reaches, Causes, HaveOneEnd}
+use Rattle.cg_files.specs.Said.{Said, a_curve, a_model, a_script, Says, fault_line, HasCause}
+use Rattle.cg_files.specs.Reading.{File, Accepts, AcceptsAll, ComesTo, CausesFault, HaveOneEnd}
 use Rattle.cg_files.specs.declared.file.FileKind.{FileKind}
 use Rattle.cg_files.specs.declared.file.FileKind.TheVariants.{Curve, Model, Session}
 use Rattle.cg_files.specs.declared.file.FileRef.{FileRef}
@@ -49,7 +49,7 @@ one_cause kind bytes ref l k cause.TooLong cause.Form x y = absurd (apart limit 
 one_cause kind bytes ref l k (cause.Curve f) cause.TooLong x y = absurd (apart limit (length bytes) y.1 x.1)
 one_cause Curve bytes ref l k (cause.Curve f) (cause.Curve g) x y =
     let same : f ≡ g = (each_is_decided bytes).one_fault f g x.2 y.2 in
-    ap (λ n. Refused ref n (cause.Curve f)) x.0 ∙ ap (λ (h : CurveFault). Refused ref (line_of h) (cause.Curve h)) same ∙ ap (λ n. Refused ref n (cause.Curve g)) (sym y.0)
+    ap (λ n. Refused ref n (cause.Curve f)) x.0 ∙ ap (λ (h : CurveFault). Refused ref (fault_line h) (cause.Curve h)) same ∙ ap (λ n. Refused ref n (cause.Curve g)) (sym y.0)
 one_cause Model bytes ref l k (cause.Curve f) (cause.Curve g) x y = absurd x.2
 one_cause Session bytes ref l k (cause.Curve f) (cause.Curve g) x y = absurd x.2
 one_cause Curve bytes ref l k (cause.Curve f) cause.Form x y = absurd y.2
@@ -112,12 +112,12 @@ behind told [] files (s ∷ said) f all stops = absurd all
 behind told (b ∷ before) files [] f all stops = absurd all
 behind told (b ∷ before) files (s ∷ said) f all stops = inr (s, all.0, behind (after_read told) before files said f all.1 stops)
 
-reached : (told : Files) (files : List File) (file : File) (f : FileFault) → (earlier : Reaches (Some told) files file) →
+reached : (told : Files) (files : List File) (file : File) (f : FileFault) → (earlier : ComesTo (Some told) files file) →
     ((now : Files) → later (length earlier.before) (Some told) ≡ Some now → StopsAt now file f) → StopsIn told files f
 reached told files file f earlier stops =
     subst (λ fs. StopsIn told fs f) (sym earlier.parted) (behind told earlier.before (file ∷ earlier.behind) earlier.said f earlier.accepted (λ now is. inl (stops now is)))
 
-stops_in : (told : Files) (files : List File) (f : FileFault) → Causes (Some told) files f → StopsIn told files f
+stops_in : (told : Files) (files : List File) (f : FileFault) → CausesFault (Some told) files f → StopsIn told files f
 stops_in told files (Failed ref) x =
     let file : File = record { ref = ref; name = x.name } in
     reached told files file (Failed ref) x.earlier (λ now is. inl (subst (λ o. Misses o x.name) is x.missed, refl))

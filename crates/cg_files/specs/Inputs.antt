@@ -24,15 +24,15 @@ files_from kind number (name ∷ names) = file_as kind number name ∷ files_fro
 abbrev pub names_of : List NamedFile → List (List ℕ)
 names_of named = map (λ one. one.name) named
 
-abbrev pub paths_of : List NamedFile → List (List ℕ)
-paths_of named = map (λ one. one.file) named
+abbrev pub file_names : List NamedFile → List (List ℕ)
+file_names named = map (λ one. one.file) named
 
 -- the files of each kind
 abbrev pub curve_files : List NamedFile → List File
-curve_files named = files_from Curve 1 (paths_of named)
+curve_files named = files_from Curve 1 (file_names named)
 
 abbrev pub model_files : List NamedFile → List File
-model_files named = files_from Model 1 (paths_of named)
+model_files named = files_from Model 1 (file_names named)
 
 abbrev pub session_files : List (List ℕ) → List File
 session_files paths = files_from Session 1 paths

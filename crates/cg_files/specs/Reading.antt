@@ -26,7 +26,7 @@ AcceptsAll told (file ∷ files) [] = ⊥
 AcceptsAll told (file ∷ files) (said ∷ others) = Accepts told file said × AcceptsAll (option_map after_read told) files others
 
 -- Reads come to this file: all files before it are accepted.
-pub record Reaches (told : Option Files) (files : List File) (file : File) : Type 0 where
+pub record ComesTo (told : Option Files) (files : List File) (file : File) : Type 0 where
   pub before : List File
   pub behind : List File
   pub said : List Said
@@ -36,14 +36,14 @@ pub record Reaches (told : Option Files) (files : List File) (file : File) : Typ
 -- All files before this one are accepted, and its read fails.
 pub record MissesFile (told : Option Files) (files : List File) (ref : FileRef) : Type 0 where
   pub name : List ℕ
-  pub earlier : Reaches told files record { ref = ref; name = name }
+  pub earlier : ComesTo told files record { ref = ref; name = name }
   pub missed : Misses (later (length earlier.before) told) name
 
 -- All files before this one are accepted, and its bytes are refused.
 pub record RefusesFile (told : Option Files) (files : List File) (ref : FileRef) (line : ℕ) (cause : FileCause) : Type 0 where
   pub name : List ℕ
   pub bytes : List ℕ
-  pub earlier : Reaches told files record { ref = ref; name = name }
+  pub earlier : ComesTo told files record { ref = ref; name = name }
   pub found : Finds (later (length earlier.before) told) name bytes
   pub refused : HasCause ref.kind bytes line cause
 
@@ -58,10 +58,10 @@ pub record IsRefused (told now : Option Files) (files : List File) (ref : FileRe
   pub reads : Reads (length refusal.earlier.before + 1) told now
 
 -- what the shelf's files cause; want of memory is not caused by them
-abbrev pub Causes : Option Files → List File → FileFault → Type 0
-Causes told files (Failed ref) = MissesFile told files ref
-Causes told files (Refused ref line cause) = RefusesFile told files ref line cause
-Causes told files NoMemory = ⊥
+abbrev pub CausesFault : Option Files → List File → FileFault → Type 0
+CausesFault told files (Failed ref) = MissesFile told files ref
+CausesFault told files (Refused ref line cause) = RefusesFile told files ref line cause
+CausesFault told files NoMemory = ⊥
 
 -- why reads of these files end before they are all accepted; want of memory may end them anywhere
 abbrev pub EndsWith : Option Files → Option Files → List File → FileFault → Type 0
@@ -82,8 +82,8 @@ HasRisen NoMemory before now = Unit {0}
 
 -- Where the shelf tells its files, reads of these have one fault at most, and none where all are accepted.
 pub record HaveOneEnd (told : Files) (files : List File) : Type 0 where
-  pub one : (f g : FileFault) → Causes (Some told) files f → Causes (Some told) files g → f ≡ g
-  pub none : (said : List Said) (fault : FileFault) → AcceptsAll (Some told) files said → ¬ Causes (Some told) files fault
+  pub one : (f g : FileFault) → CausesFault (Some told) files f → CausesFault (Some told) files g → f ≡ g
+  pub none : (said : List Said) (fault : FileFault) → AcceptsAll (Some told) files said → ¬ CausesFault (Some told) files fault
 
 -- so do reads of any files
 abbrev pub FilesHaveOneEnd : Type 0

@@ -5,7 +5,7 @@ use Rattle.cg_meaning.specs.Tree.{Chronology}
 use Rattle.cg_curve.specs.File.{IsCurveFile, HasFault}
 use Rattle.cg_curve.specs.declared.fault.CurveFault.{CurveFault}
 use Rattle.cg_curve.specs.declared.fault.CurveFault.TheVariants.{BadRow, OutOfRange, Order, Gap, TooMany, TooFew, NoMemory}
-use Rattle.cg_form.specs.Model.{IsModel, HasNoModel}
+use Rattle.cg_form.specs.Model.{IsModelFile, HasNoModel}
 use Rattle.cg_sharing.specs.Command.{Line}
 use Rattle.cg_script.specs.Form.{IsScript, HasNoScript}
 use Rattle.cg_files.specs.Shelf.{limit}
@@ -26,19 +26,19 @@ pub data Said : Type 0 where
 -- the bytes of a file of this kind say this
 abbrev pub Says : FileKind → List ℕ → Said → Type 0
 Says Curve bytes (a_curve rows) = IsCurveFile bytes rows
-Says Model bytes (a_model chronology) = IsModel bytes chronology
+Says Model bytes (a_model chronology) = IsModelFile bytes chronology
 Says Session bytes (a_script lines) = IsScript bytes lines
 Says kind bytes other = ⊥
 
 -- the line of a curve's fault, 0 for the file as a whole
-abbrev pub line_of : CurveFault → ℕ
-line_of (BadRow line) = line
-line_of (OutOfRange line) = line
-line_of (Order line) = line
-line_of (Gap line) = line
-line_of (TooMany line) = line
-line_of TooFew = 0
-line_of NoMemory = 0
+abbrev pub fault_line : CurveFault → ℕ
+fault_line (BadRow line) = line
+fault_line (OutOfRange line) = line
+fault_line (Order line) = line
+fault_line (Gap line) = line
+fault_line (TooMany line) = line
+fault_line TooFew = 0
+fault_line NoMemory = 0
 
 -- what a curve's fault is of a file
 abbrev pub fault_of_curve : FileRef → CurveFault → FileFault
@@ -65,5 +65,5 @@ HasCurveFault Session bytes fault = ⊥
 -- why a file of this kind is refused, and at which line
 abbrev pub HasCause : FileKind → List ℕ → ℕ → FileCause → Type 0
 HasCause kind bytes line cause.TooLong = (line ≡ 0) × (limit < length bytes)
-HasCause kind bytes line (cause.Curve fault) = (line ≡ line_of fault) × (length bytes ≤ limit) × HasCurveFault kind bytes fault
+HasCause kind bytes line (cause.Curve fault) = (line ≡ fault_line fault) × (length bytes ≤ limit) × HasCurveFault kind bytes fault
 HasCause kind bytes line cause.Form = (line ≡ 0) × (length bytes ≤ limit) × HasNoForm kind bytes

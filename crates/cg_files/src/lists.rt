@@ -1,7 +1,7 @@
 //! The files of one kind, one after the other.
 
 ghost use Rattle.std.specs.Prelude.{◌≡◌, ◌≢◌, ◌≤◌, length, map, AllPairs, IfOk, IfErr};
-ghost use Rattle.cg_words.specs.Words.{IsSameName};
+ghost use Rattle.cg_curve.specs.Curves.{IsSameName};
 ghost use Rattle.cg_files.specs.Reading.{AreRead, EndsWith, HasRisen};
 ghost use Rattle.cg_files.specs.Inputs.{names_of, curve_files, model_files, session_files, said_of_curves, said_of_models, said_of_scripts};
 
@@ -9,9 +9,8 @@ use crate::file::FileFault;
 use crate::read::{curve_of, model_of, script_of};
 use cg_curve::Curves;
 use cg_io::Shelf;
-use cg_model::{Name, NameFault};
-use cg_num::NoMemory;
 use cg_script::Script;
+use cg_text::name_of;
 use cg_versions::StartModels;
 use cg_words::NamedFile;
 use std::alloc::Global;
@@ -37,18 +36,6 @@ pub fn read_curves<H: Shelf>(
         curves.push(one.name().as_bytes(), curve)?;
     }
     Ok(curves)
-}
-
-/// A name of at most 64 bytes.
-fn name_of(alloc: Global, text: &str) -> Result<Name, NoMemory>
-    requires { length text.now ≤ 64 }
-    ensures { IfOk result (λ name. name ≡ text.now) }
-{
-    match Name::new(alloc, text) {
-        Ok(name) => Ok(name),
-        Err(NameFault::NoMemory) => Err(NoMemory),
-        Err(NameFault::TooLong) => unreachable!(),
-    }
 }
 
 /// The models of these files, under their names.

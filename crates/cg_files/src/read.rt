@@ -2,7 +2,7 @@
 
 ghost use Rattle.std.specs.Prelude.{◌≡◌, ◌≤◌, ◌∷◌, [], IfOk, IfErr, length};
 ghost use Rattle.cg_files.specs.Shelf.{limit, Reads, Finds};
-ghost use Rattle.cg_files.specs.Said.{line_of, fault_of_curve, a_curve, a_model, a_script};
+ghost use Rattle.cg_files.specs.Said.{fault_line, fault_of_curve, a_curve, a_model, a_script};
 ghost use Rattle.cg_files.specs.Reading.{AreRead, EndsWith, HasRisen};
 ghost use Rattle.cg_files.specs.Inputs.{file_as};
 
@@ -40,8 +40,8 @@ fn bytes_of<H: Shelf>(
 }
 
 /// The line of a curve's fault, 0 for the file as a whole.
-fn line_of(fault: CurveFault) -> u32
-    ensures { result ≡ line_of fault }
+fn fault_line(fault: CurveFault) -> u32
+    ensures { result ≡ fault_line fault }
 {
     match fault {
         CurveFault::BadRow(line) => line,
@@ -59,7 +59,7 @@ fn fault_of_curve(file: FileRef, fault: CurveFault) -> FileFault
 {
     match fault {
         CurveFault::NoMemory => FileFault::NoMemory,
-        other => FileFault::Refused(file, line_of(other), FileCause::Curve(other)),
+        other => FileFault::Refused(file, fault_line(other), FileCause::Curve(other)),
     }
 }
 

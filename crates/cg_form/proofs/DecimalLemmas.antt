@@ -6,11 +6,11 @@ use Rattle.std.proofs.lemmas.Bool.{le-ltb}
 use Rattle.std.proofs.lemmas.Bool.Decides.{nat_tests}
 use Rattle.std.proofs.lemmas.Int.{ints}
 use Rattle.cg_num.specs.Written.{point_and_three, fraction_text, decimal_text}
-use Rattle.cg_form.specs.Pieces.{after, number_at}
+use Rattle.cg_text.specs.Pieces.{after, number_at}
 use Rattle.cg_form.specs.Values.{thousandths_of, decimals_at, fraction_from, decimal_at}
-use Rattle.cg_form.proofs.StepLemmas.{passes, parts, if-some, and-both, is-either}
-use Rattle.cg_form.proofs.PieceLemmas.{after-is, prefix-stops, prefix-passes, take-front, drop-front}
-use Rattle.cg_form.proofs.NumberLemmas.{number-append, number-is}
+use Rattle.cg_text.proofs.StepLemmas.{passes, parts, if-some, and-both, is-either}
+use Rattle.cg_text.proofs.PieceLemmas.{after-is, prefix-stops, prefix-passes, take-front, drop-front}
+use Rattle.cg_text.proofs.NumberLemmas.{number-append, number-is}
 
 -- the byte of a digit
 digit-is : (d : ℕ) → d < 10 → is_ascii_digit (48 + d) ≡ true

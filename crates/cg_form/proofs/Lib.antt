@@ -1,6 +1,3 @@
-pub mod StepLemmas
-pub mod PieceLemmas
-pub mod NumberLemmas
 pub mod YearLemmas
 pub mod DecimalLemmas
 pub mod ValueLemmas

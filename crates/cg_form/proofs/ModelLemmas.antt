@@ -4,10 +4,10 @@ use Rattle.std.proofs.lemmas.List.Elements.{All-nil, All-cons, All-append}
 use Rattle.std.proofs.lemmas.Slice.Eq.{bytes_eq-Decides}
 use Rattle.cg_meaning.specs.Tree.{Name, Dating, Free, Exact, Normal, Carbon, Sequence, Phase, Tree, Leaf, Boundary, Group, Trees, none, more, Chronology, count, datings_of, datings_of_all}
 use Rattle.cg_model.specs.Limits.{groups_of, IsWithinLimits, AreInPlace, IsInRange, AreInRange}
-use Rattle.cg_form.specs.Text.{IsEnd}
-use Rattle.cg_form.specs.Model.{IsStated, IsWritten, AreWritten, text_of, text_of_all, IsModel, HasNoModel, IsAlone}
+use Rattle.cg_text.specs.Text.{IsEnd}
+use Rattle.cg_form.specs.Model.{IsStated, IsWritten, AreWritten, statement_text, statements_text, IsModelFile, HasNoModel, IsAlone}
 use Rattle.cg_form.specs.Reading.{is_past, is_end, statement_at, statements_at, alone_at}
-use Rattle.cg_form.proofs.StepLemmas.{none-some, passes, parts, if-some, and-both, is-either}
+use Rattle.cg_text.proofs.StepLemmas.{none-some, passes, parts, if-some, and-both, is-either}
 use Rattle.cg_form.proofs.TreeLemmas.{statement-append, all-append, statement-is, statements-are}
 
 -- no statement follows at the end of a file
@@ -29,7 +29,7 @@ test-end end h =
     ]
 
 -- a model file is read as what it says
-pub model-read : (bytes : List ℕ) (chronology : Chronology) → (h : IsModel bytes chronology) → statements_at 16 Phase bytes ≡ Some (chronology.top, h.end)
+pub model-read : (bytes : List ℕ) (chronology : Chronology) → (h : IsModelFile bytes chronology) → statements_at 16 Phase bytes ≡ Some (chronology.top, h.end)
 model-read bytes chronology h =
     ap (statements_at 16 Phase) h.form
     ∙ all-append chronology.top 16 Phase h.end h.written h.bounded.placed h.bounded.limits.depth (omega (arith, h.bounded.limits.events, h.bounded.limits.groups)) (past-end h.end h.ended)
@@ -62,7 +62,7 @@ read-ranged bytes top rest h = let is = statements-are 16 Phase bytes top rest h
 
 -- what is read, within the limits, is what the file says
 pub read-model : (bytes : List ℕ) (top : Trees) (rest : List ℕ) → statements_at 16 Phase bytes ≡ Some (top, rest) → is_end rest ≡ true → IsWithinLimits top
-    → IsModel bytes (record { curve = None; top = top })
+    → IsModelFile bytes (record { curve = None; top = top })
 read-model bytes top rest h ended within =
     let is = statements-are 16 Phase bytes top rest h in
     record {
@@ -71,7 +71,7 @@ read-model bytes top rest h ended within =
       bounded = record { limits = within; placed = read-placed bytes top rest h; ranged = read-ranged bytes top rest h };
       curve = refl;
       ended = test-end rest ended;
-      form = is.form ∙ ap (λ ts. text_of_all ts ++ rest) is.says;
+      form = is.form ∙ ap (λ ts. statements_text ts ++ rest) is.says;
     }
 
 -- a file that is not read says nothing
@@ -95,13 +95,13 @@ same-chronology : (x y : Chronology) → x.curve ≡ y.curve → x.top ≡ y.top
 same-chronology x y c t = ap₂ (λ (curve : Option Name) (top : Trees). record { curve = curve; top = top }) c t
 
 -- a file says one chronology at most
-pub one-model : (bytes : List ℕ) (x y : Chronology) → IsModel bytes x → IsModel bytes y → x ≡ y
+pub one-model : (bytes : List ℕ) (x y : Chronology) → IsModelFile bytes x → IsModelFile bytes y → x ≡ y
 one-model bytes x y h k =
     let pair = parts x.top y.top h.end k.end (sym (model-read bytes x h) ∙ model-read bytes y k) in
     same-chronology x y (h.curve ∙ sym k.curve) pair.0
 
 -- a statement that stands alone is read as it stands
-pub alone-append : (t : Tree) (rest : List ℕ) → IsAlone t → alone_at (text_of t ++ rest) ≡ Some (t, rest)
+pub alone-append : (t : Tree) (rest : List ℕ) → IsAlone t → alone_at (statement_text t ++ rest) ≡ Some (t, rest)
 unfolding alone_at
 alone-append t rest h =
     let events : count t ≤ 100 = omega (arith, h.limits.events) in
@@ -114,7 +114,7 @@ alone-append t rest h =
 -- What was read is a statement that stands alone.
 pub record IsAloneAt (bytes : List ℕ) (t : Tree) (rest : List ℕ) : Type 0 where
   pub alone : IsAlone t
-  pub form : bytes ≡ text_of t ++ rest
+  pub form : bytes ≡ statement_text t ++ rest
 
 -- what was read is one
 pub alone-is : (bytes : List ℕ) (t : Tree) (rest : List ℕ) → alone_at bytes ≡ Some (t, rest) → IsAloneAt bytes t rest

@@ -2,7 +2,7 @@
 use Rattle.std.proofs.Common.{◌≡◌, ℕ, zero, suc, ◌+◌, ◌-◌, ◌<◌, ◌≤◌, ◌⊎◌, inl, inr, true, false, List, codes, Option, Some, None, refl, sym, ap, ◌∙◌, arith}
 use Rattle.cg_meaning.specs.Tree.{Kind, Name, Tree, Group, Trees, none}
 use Rattle.cg_model.specs.Node.{trees_with}
-use Rattle.cg_form.specs.Pieces.{◌>>=◌, after}
+use Rattle.cg_text.specs.Pieces.{◌>>=◌, after}
 use Rattle.cg_form.specs.Reading.{leaf_at, boundary_at, head_at, is_past, repeat_at, group_at, statement_at, statements_at}
 
 -- one more than what is left

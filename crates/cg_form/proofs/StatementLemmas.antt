@@ -2,13 +2,13 @@
 use Rattle.std.proofs.Common.{◌≡◌, ℕ, suc, ◌≤◌, inl, inr, ◌==◌, List, [], ◌∷◌, ◌++◌, length, codes, slice_index, Option, Some, None, refl, sym, ap, ap₂, ◌∙◌, subst, subst₂, arith, append_assoc}
 use Rattle.cg_meaning.specs.Tree.{Dating, Free, Exact, Normal, Carbon, Kind, Sequence, Phase, After, Before, Name, Tree, Leaf, Boundary, Group, Trees}
 use Rattle.cg_model.specs.Limits.{depth_of, IsInPlace}
-use Rattle.cg_form.specs.Text.{IsText, quoted}
-use Rattle.cg_form.specs.Model.{IsStated, word_of, values_text, comma_of, IsTitle, title, word_of_kind, IsWritten, text_of}
-use Rattle.cg_form.specs.Pieces.{after, text_at}
+use Rattle.cg_text.specs.Text.{IsTitle, IsText, quoted}
+use Rattle.cg_form.specs.Model.{IsStated, word_of, values_text, comma_of, title, word_of_kind, IsWritten, statement_text}
+use Rattle.cg_text.specs.Pieces.{after, text_at}
 use Rattle.cg_form.specs.Values.{free_at, dated_at, carbon_at}
 use Rattle.cg_form.specs.Reading.{named_at, date_at, c_date_at, r_date_at, leaf_at, boundary_at, kind_at, title_at, head_at}
-use Rattle.cg_form.proofs.StepLemmas.{passes, parts, none-some, is-either, branch}
-use Rattle.cg_form.proofs.PieceLemmas.{after-append, after-is, text-append, text-is}
+use Rattle.cg_text.proofs.StepLemmas.{passes, parts, none-some, is-either, branch}
+use Rattle.cg_text.proofs.PieceLemmas.{after-append, after-is, text-append, text-is}
 use Rattle.cg_form.proofs.ValueLemmas.{values-append, AreValuesAt, free-is, dated-is, carbon-is}
 
 -- What was read is a statement as it stands: in place under such a group, and so deep at most.
@@ -16,7 +16,7 @@ pub record IsStatementAt (depth : ℕ) (parent : Kind) (bytes : List ℕ) (t : T
   pub written : IsWritten t
   pub placed : IsInPlace parent t
   pub deep : depth_of t ≤ depth
-  pub form : bytes ≡ text_of t ++ rest
+  pub form : bytes ≡ statement_text t ++ rest
 
 -- the parts of a leaf
 leaf-parts : (word name comma values rest : List ℕ)
@@ -32,7 +32,7 @@ named-append comma read name dating values rest good h =
     rw (named, passed, h) refl
 
 -- a leaf is read as it stands
-pub leaf-append : (name : Name) (dating : Dating) (rest : List ℕ) → IsText name → IsStated dating → leaf_at (text_of (Leaf name dating) ++ rest) ≡ Some (Leaf name dating, rest)
+pub leaf-append : (name : Name) (dating : Dating) (rest : List ℕ) → IsText name → IsStated dating → leaf_at (statement_text (Leaf name dating) ++ rest) ≡ Some (Leaf name dating, rest)
 unfolding leaf_at
 leaf-append name Free rest good h =
     ap leaf_at (leaf-parts (codes "Date") (quoted name) [] [] rest) ∙ named-append [] free_at name Free (codes ");" ++ rest) rest good (values-append Free rest h)
@@ -83,7 +83,7 @@ boundary-parts : (name rest : List ℕ) → ((codes "Boundary(" ++ name) ++ code
 boundary-parts name rest = simp append_assoc
 
 -- a Boundary is read as it stands in a Sequence
-pub boundary-append : (parent : Kind) (name : Name) (rest : List ℕ) → IsText name → IsInPlace parent (Boundary name) → boundary_at parent (text_of (Boundary name) ++ rest) ≡ Some (Boundary name, rest)
+pub boundary-append : (parent : Kind) (name : Name) (rest : List ℕ) → IsText name → IsInPlace parent (Boundary name) → boundary_at parent (statement_text (Boundary name) ++ rest) ≡ Some (Boundary name, rest)
 unfolding boundary_at
 boundary-append Sequence name rest good h =
     let named : text_at (quoted name ++ (codes ");" ++ rest)) ≡ Some (name, codes ");" ++ rest) = text-append name (codes ");" ++ rest) good in
@@ -114,12 +114,12 @@ boundary-is depth After bytes t rest h = absurd (none-some _ h)
 boundary-is depth Before bytes t rest h = absurd (none-some _ h)
 
 -- no Boundary is read as a leaf
-pub boundary-no_leaf : (name : Name) (rest : List ℕ) → leaf_at (text_of (Boundary name) ++ rest) ≡ None
+pub boundary-no_leaf : (name : Name) (rest : List ℕ) → leaf_at (statement_text (Boundary name) ++ rest) ≡ None
 unfolding leaf_at
 boundary-no_leaf name rest = refl
 
 -- nor is a group
-pub group-no_leaf : (kind : Kind) (name : Name) (ts : Trees) (rest : List ℕ) → leaf_at (text_of (Group kind name ts) ++ rest) ≡ None
+pub group-no_leaf : (kind : Kind) (name : Name) (ts : Trees) (rest : List ℕ) → leaf_at (statement_text (Group kind name ts) ++ rest) ≡ None
 unfolding leaf_at
 group-no_leaf Sequence name ts rest = refl
 group-no_leaf Phase name ts rest = refl
@@ -127,7 +127,7 @@ group-no_leaf After name ts rest = refl
 group-no_leaf Before name ts rest = refl
 
 -- and none is read as a Boundary
-pub group-no_boundary : (parent kind : Kind) (name : Name) (ts : Trees) (rest : List ℕ) → boundary_at parent (text_of (Group kind name ts) ++ rest) ≡ None
+pub group-no_boundary : (parent kind : Kind) (name : Name) (ts : Trees) (rest : List ℕ) → boundary_at parent (statement_text (Group kind name ts) ++ rest) ≡ None
 unfolding boundary_at
 group-no_boundary Sequence Sequence name ts rest = refl
 group-no_boundary Sequence Phase name ts rest = refl

@@ -3,11 +3,12 @@ use Rattle.std.proofs.Common.{◌≡◌, ℕ, zero, suc, ◌+◌, ◌≤◌, inl
 use Rattle.cg_meaning.specs.Tree.{Dating, Free, Exact, Normal, Carbon, Kind, Sequence, Phase, After, Before, Name, Tree, Leaf, Boundary, Group, Trees, none, more, count, count_all}
 use Rattle.cg_model.specs.Node.{trees_with}
 use Rattle.cg_model.specs.Limits.{groups_of, groups_in, depth_of, depth_in, IsInPlace, AreInPlace}
-use Rattle.cg_form.specs.Model.{IsTitle, title, word_of_kind, IsWritten, AreWritten, text_of, text_of_all}
-use Rattle.cg_form.specs.Pieces.{◌>>=◌, after}
+use Rattle.cg_form.specs.Model.{title, word_of_kind, IsWritten, AreWritten, statement_text, statements_text}
+use Rattle.cg_text.specs.Text.{IsTitle}
+use Rattle.cg_text.specs.Pieces.{◌>>=◌, after}
 use Rattle.cg_form.specs.Reading.{leaf_at, boundary_at, head_at, is_past, repeat_at, group_at, statement_at, statements_at}
-use Rattle.cg_form.proofs.StepLemmas.{none-some, passes, parts, is-either, either-way}
-use Rattle.cg_form.proofs.PieceLemmas.{after-is}
+use Rattle.cg_text.proofs.StepLemmas.{none-some, passes, parts, is-either, either-way}
+use Rattle.cg_text.proofs.PieceLemmas.{after-is}
 use Rattle.cg_form.proofs.StatementLemmas.{IsStatementAt, leaf-append, leaf-is, boundary-append, boundary-is, boundary-no_leaf, group-no_leaf, group-no_boundary, head-append, head-is}
 
 -- trees behind others
@@ -60,19 +61,19 @@ group-parts word name body rest = simp append_assoc
 
 -- a group is read by its statements
 group-append : (read : Kind → List ℕ → Option (Tree × List ℕ)) (kind : Kind) (name : Name) (ts : Trees) (rest : List ℕ) → IsTitle name
-    → repeat_at (read kind) 160 none (text_of_all ts ++ (codes "};" ++ rest)) ≡ Some (ts, codes "};" ++ rest)
-    → group_at read (text_of (Group kind name ts) ++ rest) ≡ Some (Group kind name ts, rest)
+    → repeat_at (read kind) 160 none (statements_text ts ++ (codes "};" ++ rest)) ≡ Some (ts, codes "};" ++ rest)
+    → group_at read (statement_text (Group kind name ts) ++ rest) ≡ Some (Group kind name ts, rest)
 unfolding group_at
 group-append read kind name ts rest good h =
-    let body = text_of_all ts ++ (codes "};" ++ rest) in
+    let body = statements_text ts ++ (codes "};" ++ rest) in
     let head = head-append kind name body good in
-    ap (group_at read) (group-parts (word_of_kind kind) (title name) (text_of_all ts) rest) ∙ rw (head, h) refl
+    ap (group_at read) (group-parts (word_of_kind kind) (title name) (statements_text ts) rest) ∙ rw (head, h) refl
 
 -- no statement begins as what stands behind statements does
-not-past : (t : Tree) (rest : List ℕ) → is_past (text_of t ++ rest) ≡ false
+not-past : (t : Tree) (rest : List ℕ) → is_past (statement_text t ++ rest) ≡ false
 not-past (Leaf name dating) rest = leaf dating
   where
-    leaf : (d : Dating) → is_past (text_of (Leaf name d) ++ rest) ≡ false
+    leaf : (d : Dating) → is_past (statement_text (Leaf name d) ++ rest) ≡ false
     leaf Free = refl
     leaf (Exact year) = refl
     leaf (Normal year error) = refl
@@ -92,31 +93,31 @@ some-nodes (Group kind name ts) = omega arith
 mutual
   -- a statement is read as it stands
   pub statement-append : (t : Tree) (depth : ℕ) (parent : Kind) (rest : List ℕ) → IsWritten t → IsInPlace parent t → depth_of t ≤ depth → count t + groups_of t ≤ 160
-      → statement_at depth parent (text_of t ++ rest) ≡ Some (t, rest)
+      → statement_at depth parent (statement_text t ++ rest) ≡ Some (t, rest)
   statement-append (Leaf name dating) zero parent rest h p d n = absurd (omega arith)
   statement-append (Leaf name dating) (suc depth) parent rest h p d n =
-      by-leaf depth parent (text_of (Leaf name dating) ++ rest) (Leaf name dating) rest (leaf-append name dating rest h.0 h.1)
+      by-leaf depth parent (statement_text (Leaf name dating) ++ rest) (Leaf name dating) rest (leaf-append name dating rest h.0 h.1)
   statement-append (Boundary name) zero parent rest h p d n = absurd (omega arith)
   statement-append (Boundary name) (suc depth) parent rest h p d n =
-      by-boundary depth parent (text_of (Boundary name) ++ rest) (Boundary name) rest (boundary-no_leaf name rest) (boundary-append parent name rest h p)
+      by-boundary depth parent (statement_text (Boundary name) ++ rest) (Boundary name) rest (boundary-no_leaf name rest) (boundary-append parent name rest h p)
   statement-append (Group kind name ts) zero parent rest h p d n = absurd (omega arith)
   statement-append (Group kind name ts) (suc depth) parent rest h p d n =
-      by-group depth parent (text_of (Group kind name ts) ++ rest) (group-no_leaf kind name ts rest) (group-no_boundary parent kind name ts rest)
+      by-group depth parent (statement_text (Group kind name ts) ++ rest) (group-no_leaf kind name ts rest) (group-no_boundary parent kind name ts rest)
       ∙ group-append (statement_at depth) kind name ts rest h.0
       (statements-append ts depth kind 160 none (codes "};" ++ rest) h.1 p (omega arith) (omega arith) (omega arith) refl)
 
   -- so are several, up to where none follows
   pub statements-append : (ts : Trees) (depth : ℕ) (parent : Kind) (left : ℕ) (before : Trees) (rest : List ℕ) → AreWritten ts → AreInPlace parent ts → depth_in ts ≤ depth
-      → count_all ts + groups_in ts ≤ left → left ≤ 160 → is_past rest ≡ true → repeat_at (statement_at depth parent) left before (text_of_all ts ++ rest) ≡ Some (joined before ts, rest)
+      → count_all ts + groups_in ts ≤ left → left ≤ 160 → is_past rest ≡ true → repeat_at (statement_at depth parent) left before (statements_text ts ++ rest) ≡ Some (joined before ts, rest)
   statements-append none depth parent left before rest h p d n few e =
       repeat-past (statement_at depth parent) left before rest e ∙ ap (λ us. Some (us, rest)) (sym (joined-none before))
   statements-append (more t ts) depth parent zero before rest h p d n few e = absurd (omega (arith, some-nodes t))
   statements-append (more t ts) depth parent (suc left) before rest h p d n few e =
-      let behind = text_of_all ts ++ rest in
+      let behind = statements_text ts ++ rest in
       let read = statement_at depth parent in
-      let first : read (text_of t ++ behind) ≡ Some (t, behind) = statement-append t depth parent behind h.0 p.0 (omega arith) (omega arith) in
-      ap (repeat_at read (suc left) before) (append_assoc (text_of t) (text_of_all ts) rest)
-      ∙ repeat-next read left before (text_of t ++ behind) t behind (not-past t behind) first
+      let first : read (statement_text t ++ behind) ≡ Some (t, behind) = statement-append t depth parent behind h.0 p.0 (omega arith) (omega arith) in
+      ap (repeat_at read (suc left) before) (append_assoc (statement_text t) (statements_text ts) rest)
+      ∙ repeat-next read left before (statement_text t ++ behind) t behind (not-past t behind) first
       ∙ statements-append ts depth parent left (trees_with before t) rest h.1 p.1 (omega arith) (omega (arith, some-nodes t)) (omega arith) e
       ∙ ap (λ us. Some (us, rest)) (joined-with before t ts)
 
@@ -127,7 +128,7 @@ pub record AreStatementsAt (depth : ℕ) (parent : Kind) (before : Trees) (bytes
   pub written : AreWritten members
   pub placed : AreInPlace parent members
   pub deep : depth_in members ≤ depth
-  pub form : bytes ≡ text_of_all members ++ rest
+  pub form : bytes ≡ statements_text members ++ rest
 
 -- no more of them
 none-at : (depth : ℕ) (parent : Kind) (before : Trees) (bytes : List ℕ) (all : Trees) (rest : List ℕ) → ◌≡◌ {A = Option (Trees × List ℕ)} (Some (before, bytes)) (Some (all, rest))
@@ -146,7 +147,7 @@ one-more depth parent before bytes t behind all rest first others =
       written = (first.written, others.written);
       placed = (first.placed, others.placed);
       deep = omega (arith, first.deep, others.deep);
-      form = first.form ∙ ap (λ x. text_of t ++ x) others.form ∙ sym (append_assoc (text_of t) (text_of_all others.members) rest);
+      form = first.form ∙ ap (λ x. statement_text t ++ x) others.form ∙ sym (append_assoc (statement_text t) (statements_text others.members) rest);
     }
 
 -- what was read are statements, where each was
@@ -177,13 +178,13 @@ group-is depth parent read each bytes t rest h =
     let all = repeat-are depth kind (read kind) (each kind) 160 none body ts behind inside in
     let is_all : all.members ≡ ts = all.says in
     let ends : behind ≡ codes "};" ++ others = after-is (codes "};") behind others closed in
-    let whole : bytes ≡ (word_of_kind kind ++ codes "(") ++ (title name ++ (codes "){" ++ (text_of_all all.members ++ (codes "};" ++ others)))) =
-    head.form ∙ ap (λ x. (word_of_kind kind ++ codes "(") ++ (title name ++ (codes "){" ++ x))) (all.form ∙ ap (λ x. text_of_all all.members ++ x) ends) in
+    let whole : bytes ≡ (word_of_kind kind ++ codes "(") ++ (title name ++ (codes "){" ++ (statements_text all.members ++ (codes "};" ++ others)))) =
+    head.form ∙ ap (λ x. (word_of_kind kind ++ codes "(") ++ (title name ++ (codes "){" ++ x))) (all.form ∙ ap (λ x. statements_text all.members ++ x) ends) in
     subst₂ (IsStatementAt (suc depth) parent bytes) (ap (λ us. Group kind name us) is_all ∙ pair.0) pair.1 (record {
       written = (head.good, all.written);
       placed = all.placed;
       deep = omega (arith, all.deep);
-      form = whole ∙ sym (group-parts (word_of_kind kind) (title name) (text_of_all all.members) others);
+      form = whole ∙ sym (group-parts (word_of_kind kind) (title name) (statements_text all.members) others);
     }))))
 
 -- what was read is a statement
@@ -202,6 +203,6 @@ statements-are depth parent bytes all rest h = repeat-are depth parent (statemen
 
 -- statements are read as they stand, up to where none follows
 pub all-append : (ts : Trees) (depth : ℕ) (parent : Kind) (rest : List ℕ) → AreWritten ts → AreInPlace parent ts → depth_in ts ≤ depth → count_all ts + groups_in ts ≤ 160 → is_past rest ≡ true
-    → statements_at depth parent (text_of_all ts ++ rest) ≡ Some (ts, rest)
+    → statements_at depth parent (statements_text ts ++ rest) ≡ Some (ts, rest)
 unfolding statements_at
 all-append ts depth parent rest h p d n e = statements-append ts depth parent 160 none rest h p d n (omega arith) e

@@ -7,10 +7,10 @@ use Rattle.cg_num.specs.Written.{decimal_text}
 use Rattle.cg_meaning.specs.Tree.{Dating, Free, Exact, Normal, Carbon}
 use Rattle.cg_model.specs.Limits.{IsCarbon}
 use Rattle.cg_form.specs.Model.{IsStated, calendar_of, word_of, values_text, comma_of, nameless}
-use Rattle.cg_form.specs.Pieces.{after}
+use Rattle.cg_text.specs.Pieces.{after}
 use Rattle.cg_form.specs.Values.{year_at, error_at, age_at, free_at, dated_from, dated_at, carbon_at, nameless_at}
-use Rattle.cg_form.proofs.StepLemmas.{passes, parts, none-some, branch}
-use Rattle.cg_form.proofs.PieceLemmas.{after-is}
+use Rattle.cg_text.proofs.StepLemmas.{passes, parts, none-some, branch}
+use Rattle.cg_text.proofs.PieceLemmas.{after-is}
 use Rattle.cg_form.proofs.YearLemmas.{year-append, year-is}
 use Rattle.cg_form.proofs.DecimalLemmas.{decimal-append, decimal-is}
 

@@ -7,12 +7,12 @@ use Rattle.std.proofs.lemmas.Int.{ints}
 use Rattle.std.proofs.lemmas.Bool.Decides.{Decides-int_eq}
 use Rattle.std.proofs.lemmas.Fmt.{digits_decimal, decimal_nonempty}
 use Rattle.cg_num.specs.Year.{IsYear, IsCalendarYear, bp_of_calendar}
-use Rattle.cg_form.specs.Pieces.{after, number_at}
+use Rattle.cg_text.specs.Pieces.{after, number_at}
 use Rattle.cg_form.specs.Values.{signed_from, signed_at, calendar_year, year_at}
 use Rattle.cg_form.specs.Model.{calendar_of}
-use Rattle.cg_form.proofs.StepLemmas.{passes, parts, if-some, and-both, is-either}
-use Rattle.cg_form.proofs.PieceLemmas.{after-is}
-use Rattle.cg_form.proofs.NumberLemmas.{own, number-append, number-is}
+use Rattle.cg_text.proofs.StepLemmas.{passes, parts, if-some, and-both, is-either}
+use Rattle.cg_text.proofs.PieceLemmas.{after-is}
+use Rattle.cg_text.proofs.NumberLemmas.{own, number-append, number-is}
 
 -- tests of whole numbers
 pub le-true : (x y : ℤ) → x ≤ℤ y → int_le x y ≡ true

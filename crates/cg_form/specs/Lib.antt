@@ -1,5 +1,3 @@
-pub mod Text
 pub mod Model
-pub mod Pieces
 pub mod Values
 pub mod Reading

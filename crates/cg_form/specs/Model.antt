@@ -5,7 +5,7 @@ use Rattle.cg_num.specs.Year.{IsYear}
 use Rattle.cg_num.specs.Written.{decimal_text}
 use Rattle.cg_meaning.specs.Tree.{Dating, Free, Exact, Normal, Carbon, Kind, Sequence, Phase, After, Before, Name, Tree, Leaf, Boundary, Group, Trees, none, more, Chronology}
 use Rattle.cg_model.specs.Limits as limits
-use Rattle.cg_form.specs.Text.{IsText, quoted, IsEnd}
+use Rattle.cg_text.specs.Text.{IsText, IsTitle, quoted, IsEnd}
 
 -- what a statement may say of an event: values in their ranges, and no age below 0
 abbrev pub IsStated : Dating → Type 0
@@ -43,11 +43,7 @@ comma_of (Carbon age error) = codes ","
 abbrev pub nameless : Dating → List ℕ
 nameless dating = word_of dating ++ codes "(" ++ values_text dating ++ codes ");"
 
--- the name of a group: a text, or none
-abbrev pub IsTitle : Name → Type 0
-IsTitle name = (name ≡ []) ⊎ IsText name
-
--- the same as it stands in the file
+-- the name of a group as it stands in the file: a text between quotes, or nothing
 abbrev pub title : Name → List ℕ
 title [] = []
 title (c ∷ cs) = quoted (c ∷ cs)
@@ -71,31 +67,31 @@ abbrev mutual
 
 -- a statement as it stands in the file
 abbrev mutual
-  pub text_of : Tree → List ℕ
-  text_of (Leaf name dating) = word_of dating ++ codes "(" ++ quoted name ++ comma_of dating ++ values_text dating ++ codes ");"
-  text_of (Boundary name) = codes "Boundary(" ++ quoted name ++ codes ");"
-  text_of (Group kind name ts) = word_of_kind kind ++ codes "(" ++ title name ++ codes "){" ++ text_of_all ts ++ codes "};"
+  pub statement_text : Tree → List ℕ
+  statement_text (Leaf name dating) = word_of dating ++ codes "(" ++ quoted name ++ comma_of dating ++ values_text dating ++ codes ");"
+  statement_text (Boundary name) = codes "Boundary(" ++ quoted name ++ codes ");"
+  statement_text (Group kind name ts) = word_of_kind kind ++ codes "(" ++ title name ++ codes "){" ++ statements_text ts ++ codes "};"
 
-  pub text_of_all : Trees → List ℕ
-  text_of_all none = []
-  text_of_all (more t ts) = text_of t ++ text_of_all ts
+  pub statements_text : Trees → List ℕ
+  statements_text none = []
+  statements_text (more t ts) = statement_text t ++ statements_text ts
 
 -- The bytes are in the Form of a model file, and this is what they say.
-pub record IsModel (bytes : List ℕ) (chronology : Chronology) : Type 0 where
+pub record IsModelFile (bytes : List ℕ) (chronology : Chronology) : Type 0 where
   pub end : List ℕ
   pub written : AreWritten chronology.top
   pub bounded : limits.IsModel chronology.top
   pub curve : chronology.curve ≡ None
   pub ended : IsEnd end
-  pub form : bytes ≡ text_of_all chronology.top ++ end
+  pub form : bytes ≡ statements_text chronology.top ++ end
 
 -- the bytes are not in the Form of a model file
 abbrev pub HasNoModel : List ℕ → Type 0
-HasNoModel bytes = (chronology : Chronology) → ¬ IsModel bytes chronology
+HasNoModel bytes = (chronology : Chronology) → ¬ IsModelFile bytes chronology
 
 -- bytes say one chronology at most
 abbrev pub IsOneModel : Type 0
-IsOneModel = (bytes : List ℕ) (x y : Chronology) → IsModel bytes x → IsModel bytes y → x ≡ y
+IsOneModel = (bytes : List ℕ) (x y : Chronology) → IsModelFile bytes x → IsModelFile bytes y → x ≡ y
 
 -- A statement that stands alone: in place under a Sequence, and within the limits of a model.
 pub record IsAlone (t : Tree) : Type 0 where

@@ -1,15 +1,11 @@
 -- How a model file is read from front to back: what it says, or none.
 use Rattle.std.specs.Prelude.{ℕ, zero, suc, Bool, true, ◌==◌, ◌&&◌, ◌||◌, nat_le, List, [], ◌∷◌, codes, Option, Some, None, if◌then◌else◌, bytes_eq, slice_index}
+use Rattle.std.specs.Option.{option_or}
 use Rattle.cg_meaning.specs.Tree.{Dating, Kind, Sequence, Phase, After, Before, Name, Tree, Leaf, Boundary, Group, Trees, none, count}
 use Rattle.cg_model.specs.Limits.{groups_of}
 use Rattle.cg_model.specs.Node.{trees_with}
-use Rattle.cg_form.specs.Pieces.{◌>>=◌, after, behind_or, text_at}
+use Rattle.cg_text.specs.Pieces.{◌>>=◌, after, behind_or, text_at}
 use Rattle.cg_form.specs.Values.{free_at, dated_at, carbon_at}
-
--- one way, or else another
-abbrev pub or_else : {A : Type 0} → Option A → Option A → Option A
-or_else (Some x) other = Some x
-or_else None other = other
 
 -- a name, a comma or nothing, and the values of a dating
 abbrev pub named_at : List ℕ → (List ℕ → Option (Dating × List ℕ)) → List ℕ → Option (Tree × List ℕ)
@@ -80,7 +76,7 @@ group_at read bytes =
 unfoldable pub statement_at : ℕ → Kind → List ℕ → Option (Tree × List ℕ)
 statement_at zero parent bytes = None
 statement_at (suc depth) parent bytes =
-    or_else (leaf_at bytes) (or_else (boundary_at parent bytes) (group_at (statement_at depth) bytes))
+    option_or (leaf_at bytes) (option_or (boundary_at parent bytes) (group_at (statement_at depth) bytes))
 
 -- the statements of a group of this kind
 unfoldable pub statements_at : ℕ → Kind → List ℕ → Option (Trees × List ℕ)

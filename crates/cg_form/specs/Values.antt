@@ -5,7 +5,7 @@ use Rattle.std.specs.Ordering.{int_eq}
 use Rattle.std.specs.Char.{is_ascii_digit}
 use Rattle.cg_num.specs.Year.{bp_of_calendar}
 use Rattle.cg_meaning.specs.Tree.{Dating, Free, Exact, Normal, Carbon}
-use Rattle.cg_form.specs.Pieces.{◌>>=◌, after, behind_or, number_at}
+use Rattle.cg_text.specs.Pieces.{◌>>=◌, after, behind_or, number_at}
 
 -- a whole number: the one behind a minus, where one stands, or the one in front
 abbrev pub signed_from : Option (List ℕ) → List ℕ → Option (ℤ × List ℕ)

@@ -1,6 +1,6 @@
 ghost use Rattle.std.specs.Prelude.{◌≡◌, Some, None, IfOk};
 ghost use Rattle.cg_model.specs.Node.{tree_of};
-ghost use Rattle.cg_form.specs.Model.{IsModel, HasNoModel};
+ghost use Rattle.cg_form.specs.Model.{IsModelFile, HasNoModel};
 ghost use Rattle.cg_form.specs.Reading.{is_end, alone_at};
 
 use crate::fault::FormFault;
@@ -27,7 +27,7 @@ fn is_end(bytes: &[u8]) -> bool
 /// `Phase(T){..};`, `After(T){..};` and `Before(T){..};`, where T is a name in quotes or nothing. Y is a calendar year;
 /// the age A and the error E are in years, with at most three decimals and no needless zero.
 pub fn read_model(alloc: Global, bytes: &[u8]) -> Result<ModelTree, FormFault>
-    ensures ok { IfOk result (λ model. IsModel bytes.now model) }
+    ensures ok { IfOk result (λ model. IsModelFile bytes.now model) }
     ensures form { result ≡ Err FormFault.Form → HasNoModel bytes.now }
 {
     let (top, rest) = statements_at(alloc, MAX_DEPTH, GroupKind::Phase, bytes)?;

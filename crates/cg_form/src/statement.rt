@@ -7,25 +7,12 @@ ghost use Rattle.cg_model.specs.Node.{tree_of, trees_of};
 ghost use Rattle.cg_form.specs.Reading.{date_at, c_date_at, r_date_at, leaf_at, boundary_at, kind_at, title_at, head_at, is_past, statement_at, statements_at};
 
 use crate::fault::FormFault;
-use crate::piece::{after, text_at};
 use crate::value::{carbon_at, dated_at, free_at};
-use cg_model::{Dating, GroupKind, Members, Name, NameFault, Node};
-use cg_num::NoMemory;
+use cg_model::{Dating, GroupKind, Members, Name, Node};
+use cg_text::{after, name_of, text_at};
 use std::alloc::Global;
 
 const MAX_MEMBERS: usize = 160;
-
-/// The name of a text that is short enough for one.
-pub fn name_of(alloc: Global, text: &str) -> Result<Name, NoMemory>
-    requires { length text.now ≤ 120 }
-    ensures { IfOk result (λ name. name ≡ text.now) }
-{
-    match Name::new(alloc, text) {
-        Ok(name) => Ok(name),
-        Err(NameFault::NoMemory) => Err(NoMemory),
-        Err(NameFault::TooLong) => unreachable!(),
-    }
-}
 
 fn date_at(bytes: &[u8]) -> Option<(&str, Dating, &[u8])>
     ensures { option_map (λ leaf. (spec.Leaf leaf.0.now (dating_of leaf.1), leaf.2.now)) result ≡ date_at bytes.now }

@@ -1,12 +1,12 @@
 //! The values of statements.
 ghost use Rattle.std.specs.Prelude.{◌≡◌, ◌<◌, ◌≤◌, ◌^◌, ◌-◌, ◌&&◌, nat_le, pos, codes, option_map, IfSome, if◌then◌else◌};
 ghost use Rattle.cg_model.specs.Dating.{dating_of};
-ghost use Rattle.cg_form.specs.Pieces.{after};
+ghost use Rattle.cg_text.specs.Pieces.{after};
 ghost use Rattle.cg_form.specs.Values.{signed_at, calendar_year, year_at, thousandths_of, decimals_at, fraction_from, decimal_at, error_at, age_at, free_at, dated_at, carbon_at, nameless_at};
 
-use crate::piece::{after, digits_len, number_at};
 use cg_model::Dating;
 use cg_num::{Decimal, Year};
+use cg_text::{after, digits_len, number_at};
 
 const WHOLE_DIGITS: usize = 5;
 

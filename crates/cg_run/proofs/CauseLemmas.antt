@@ -35,7 +35,7 @@ module _ (words : List (List ℕ)) (told : Files) where
   one_fault : (f g : FileFault) → FilesCause words (Some told) f → FilesCause words (Some told) g → f ≡ g
   one_fault f g x y =
       let same = one-thing words x.request y.request x.asks y.asks in
-      (have_one_end told (files_of y.request)).one f g (subst (λ r. files.Causes (Some told) (files_of r) f) same x.cause) y.cause
+      (have_one_end told (files_of y.request)).one f g (subst (λ r. files.CausesFault (Some told) (files_of r) f) same x.cause) y.cause
 
   one_origin : (a b : Status) → Origin words (Some told) a → Origin words (Some told) b → a ≡ b
   one_origin a b (inl x) (inl y) = x.1 ∙ sym y.1
@@ -48,7 +48,7 @@ module _ (words : List (List ℕ)) (told : Files) where
   no_origin a request inputs (inr x) accepts =
       let same = one-thing words x.cause.request request x.cause.asks accepts.asks in
       (have_one_end told (files_of request)).none (said_by inputs) x.why accepts.files.accepted
-      (subst (λ r. files.Causes (Some told) (files_of r) x.why) same x.cause.cause)
+      (subst (λ r. files.CausesFault (Some told) (files_of r) x.why) same x.cause.cause)
 
 -- the status of a run of which no session began
 abbrev pub IsUnbegun : List (List ℕ) → Option Files → Status → Type 0

@@ -101,7 +101,7 @@ pub record EndsAt (words : List (List ℕ)) (told now : Option Files) (why : Fil
 pub record FilesCause (words : List (List ℕ)) (told : Option Files) (why : FileFault) : Type 0 where
   pub request : Request
   pub asks : AreWords words request
-  pub cause : files.Causes told (files_of request) why
+  pub cause : files.CausesFault told (files_of request) why
 
 -- what ends a run before a session begins
 abbrev pub Causes : List (List ℕ) → Option Files → Status → Type 0

@@ -4,21 +4,23 @@ use Rattle.std.specs.List.{prefix_len}
 use Rattle.std.specs.Char.{is_ascii_digit}
 use Rattle.std.specs.Fmt.{signed_decimal}
 use Rattle.cg_meaning.specs.Tree.{Name, Dating, Tree}
-use Rattle.cg_form.specs.Text.{IsText, quoted}
-use Rattle.cg_form.specs.Pieces.{after, text_at, number_at}
-use Rattle.cg_form.specs.Model.{nameless, text_of, IsAlone}
+use Rattle.cg_text.specs.Text.{IsText, quoted}
+use Rattle.cg_text.specs.Pieces.{after, text_at, number_at}
+use Rattle.cg_form.specs.Model.{nameless, statement_text, IsAlone}
 use Rattle.cg_form.specs.Values.{nameless_at}
 use Rattle.cg_form.specs.Reading.{alone_at}
-use Rattle.cg_form.proofs.StepLemmas.{passes, parts, none-some, branch}
-use Rattle.cg_form.proofs.PieceLemmas.{after-is, text-append, text-is}
-use Rattle.cg_form.proofs.NumberLemmas.{number-append, number-is}
+use Rattle.cg_text.proofs.StepLemmas.{passes, parts, none-some, branch}
+use Rattle.cg_text.proofs.PieceLemmas.{after-is, text-append, text-is}
+use Rattle.cg_text.proofs.NumberLemmas.{number-append, number-is}
 use Rattle.cg_form.proofs.ValueLemmas.{nameless-append, nameless-is}
 use Rattle.cg_form.proofs.ModelLemmas.{alone-append, alone-is}
 use Rattle.cg_sharing.specs.Edit.{Set, Add, InsertBefore, Drop, Rename}
 use Rattle.cg_sharing.specs.Command.{Command, Grid, Open, Take, Undo, Change, Commit, Print}
-use Rattle.cg_script.specs.Form.{is_name_byte, IsCommand, text_of_command}
-use Rattle.cg_script.specs.Reading.{name_at, title_at, node_at, year_at, grid_at, open_at, take_at, undo_at, set_at, add_at, insert_at, drop_at, rename_at, commit_at, print_at, change_at, other_at, command_at}
-use Rattle.cg_script.proofs.NameLemmas.{name-append, name-is, title-append, title-is}
+use Rattle.cg_text.specs.Names.{is_name_byte, name_at}
+use Rattle.cg_script.specs.Form.{IsCommand, command_text}
+use Rattle.cg_script.specs.Reading.{title_at, node_at, year_at, grid_at, open_at, take_at, undo_at, set_at, add_at, insert_at, drop_at, rename_at, commit_at, print_at, change_at, other_at, command_at}
+use Rattle.cg_text.proofs.NameLemmas.{name-append, name-is}
+use Rattle.cg_script.proofs.TitleLemmas.{title-append, title-is}
 use Rattle.cg_script.proofs.YearLemmas.{year-append, year-is}
 
 -- What stands behind a command: nothing, or the end of its line.
@@ -54,18 +56,18 @@ set-append event dating rest h =
     rw (named, said) refl
 
 -- the name of a node, and a statement
-node-append : (name : Name) (node : Tree) (rest : List ℕ) → IsText name → IsAlone node → node_at (quoted name ++ (codes " " ++ (text_of node ++ rest))) ≡ Some ((name, node), rest)
+node-append : (name : Name) (node : Tree) (rest : List ℕ) → IsText name → IsAlone node → node_at (quoted name ++ (codes " " ++ (statement_text node ++ rest))) ≡ Some ((name, node), rest)
 node-append name node rest h k =
-    let named = text-append name (codes " " ++ (text_of node ++ rest)) h in
+    let named = text-append name (codes " " ++ (statement_text node ++ rest)) h in
     let said = alone-append node rest k in
     rw (named, said) refl
 
 -- a new member
-add-append : (group : Name) (node : Tree) (rest : List ℕ) → IsCommand (Change (Add group node)) → add_at (quoted group ++ (codes " " ++ (text_of node ++ rest))) ≡ Some (Change (Add group node), rest)
+add-append : (group : Name) (node : Tree) (rest : List ℕ) → IsCommand (Change (Add group node)) → add_at (quoted group ++ (codes " " ++ (statement_text node ++ rest))) ≡ Some (Change (Add group node), rest)
 add-append group node rest h = rw (node-append group node rest h.0 h.1) refl
 
 -- a new node before another
-insert-append : (name : Name) (node : Tree) (rest : List ℕ) → IsCommand (Change (InsertBefore name node)) → insert_at (quoted name ++ (codes " " ++ (text_of node ++ rest))) ≡ Some (Change (InsertBefore name node), rest)
+insert-append : (name : Name) (node : Tree) (rest : List ℕ) → IsCommand (Change (InsertBefore name node)) → insert_at (quoted name ++ (codes " " ++ (statement_text node ++ rest))) ≡ Some (Change (InsertBefore name node), rest)
 insert-append name node rest h = rw (node-append name node rest h.0 h.1) refl
 
 -- a new name
@@ -76,7 +78,7 @@ rename-append name new rest h =
     rw (named, titled) refl
 
 -- a command is read as it stands
-pub command-append : (command : Command) (rest : List ℕ) → IsCommand command → IsEndAt rest → command_at (text_of_command command ++ rest) ≡ Some (command, rest)
+pub command-append : (command : Command) (rest : List ℕ) → IsCommand command → IsEndAt rest → command_at (command_text command ++ rest) ≡ Some (command, rest)
 unfolding command_at other_at change_at
 command-append (Grid older younger) rest h e =
     ap command_at (parted (codes "grid ") (signed_decimal older) (codes " ") (signed_decimal younger) rest) ∙ grid-append older younger rest h e
@@ -86,9 +88,9 @@ command-append Undo rest h e = refl
 command-append (Change (Set event dating)) rest h e =
     ap command_at (parted (codes "set ") (quoted event) (codes " ") (nameless dating) rest) ∙ set-append event dating rest h
 command-append (Change (Add group node)) rest h e =
-    ap command_at (parted (codes "add ") (quoted group) (codes " ") (text_of node) rest) ∙ add-append group node rest h
+    ap command_at (parted (codes "add ") (quoted group) (codes " ") (statement_text node) rest) ∙ add-append group node rest h
 command-append (Change (InsertBefore name node)) rest h e =
-    ap command_at (parted (codes "insert ") (quoted name) (codes " ") (text_of node) rest) ∙ insert-append name node rest h
+    ap command_at (parted (codes "insert ") (quoted name) (codes " ") (statement_text node) rest) ∙ insert-append name node rest h
 command-append (Change (Drop name)) rest h e = rw (text-append name rest h) refl
 command-append (Change (Rename name new)) rest h e =
     ap command_at (parted (codes "rename ") (quoted name) (codes " ") (quoted new) rest) ∙ rename-append name new rest h
@@ -98,7 +100,14 @@ command-append (Print event) rest h e = rw (text-append event rest h) refl
 -- What was read is a command as it stands.
 pub record IsCommandAt (bytes : List ℕ) (command : Command) (rest : List ℕ) : Type 0 where
   pub good : IsCommand command
-  pub form_is : bytes ≡ text_of_command command ++ rest
+  pub form_is : bytes ≡ command_text command ++ rest
+
+-- two parts behind a word, with a blank between them
+two-parts : (word one two bytes behind after_one next rest : List ℕ) → bytes ≡ word ++ behind → behind ≡ one ++ after_one → after (codes " ") after_one ≡ Some next → next ≡ two ++ rest
+    → bytes ≡ (word ++ one ++ codes " " ++ two) ++ rest
+two-parts word one two bytes behind after_one next rest begins first blank second =
+    let between : after_one ≡ codes " " ++ next = after-is (codes " ") after_one next blank in
+    begins ∙ ap (λ t. word ++ t) (first ∙ ap (λ t. one ++ t) (between ∙ ap (λ t. codes " " ++ t) second)) ∙ sym (parted word one (codes " ") two rest)
 
 -- what was read is a grid
 grid-is : (bytes behind : List ℕ) (command : Command) (rest : List ℕ) → bytes ≡ codes "grid " ++ behind → grid_at behind ≡ Some (command, rest) → IsCommandAt bytes command rest
@@ -109,11 +118,9 @@ grid-is bytes behind command rest begins h =
     let pair = parts (Grid older younger) command others rest h3 in
     let first = year-is behind older after_older old in
     let second = year-is next younger others young in
-    let between : after_older ≡ codes " " ++ next = after-is (codes " ") after_older next blank in
-    let whole : behind ≡ signed_decimal older ++ (codes " " ++ (signed_decimal younger ++ others)) = first.1 ∙ ap (λ t. signed_decimal older ++ t) (between ∙ ap (λ t. codes " " ++ t) second.1) in
     subst₂ (IsCommandAt bytes) pair.0 pair.1 (record {
       good = (first.0, second.0);
-      form_is = begins ∙ ap (λ t. codes "grid " ++ t) whole ∙ sym (parted (codes "grid ") (signed_decimal older) (codes " ") (signed_decimal younger) others);
+      form_is = two-parts (codes "grid ") (signed_decimal older) (signed_decimal younger) bytes behind after_older next others begins first.1 blank second.1;
     }))))
 
 -- a model by its name, opened or committed
@@ -153,18 +160,16 @@ set-is bytes behind command rest begins h =
     let pair = parts (Change (Set event dating)) command others rest h3 in
     let first = text-is behind event after_event named in
     let second = nameless-is next dating others said in
-    let between : after_event ≡ codes " " ++ next = after-is (codes " ") after_event next blank in
-    let whole : behind ≡ quoted event ++ (codes " " ++ (nameless dating ++ others)) = first.1 ∙ ap (λ t. quoted event ++ t) (between ∙ ap (λ t. codes " " ++ t) second.1) in
     subst₂ (IsCommandAt bytes) pair.0 pair.1 (record {
       good = (first.0, second.0);
-      form_is = begins ∙ ap (λ t. codes "set " ++ t) whole ∙ sym (parted (codes "set ") (quoted event) (codes " ") (nameless dating) others);
+      form_is = two-parts (codes "set ") (quoted event) (nameless dating) bytes behind after_event next others begins first.1 blank second.1;
     }))))
 
 -- What was read is the name of a node, and a statement that stands alone.
 record IsNodeAt (bytes : List ℕ) (name : Name) (node : Tree) (rest : List ℕ) : Type 0 where
   pub named : IsText name
   pub alone : IsAlone node
-  pub form_is : bytes ≡ quoted name ++ (codes " " ++ (text_of node ++ rest))
+  pub form_is : bytes ≡ quoted name ++ (codes " " ++ (statement_text node ++ rest))
 
 node-is : (bytes : List ℕ) (name : Name) (node : Tree) (rest : List ℕ) → node_at bytes ≡ Some ((name, node), rest) → IsNodeAt bytes name node rest
 node-is bytes name node rest h =
@@ -177,7 +182,7 @@ node-is bytes name node rest h =
     let first = text-is bytes found after_name named in
     let second = alone-is next statement others said in
     let between : after_name ≡ codes " " ++ next = after-is (codes " ") after_name next blank in
-    let whole : bytes ≡ quoted found ++ (codes " " ++ (text_of statement ++ others)) = first.1 ∙ ap (λ t. quoted found ++ t) (between ∙ ap (λ t. codes " " ++ t) second.form) in
+    let whole : bytes ≡ quoted found ++ (codes " " ++ (statement_text statement ++ others)) = first.1 ∙ ap (λ t. quoted found ++ t) (between ∙ ap (λ t. codes " " ++ t) second.form) in
     let node_is : IsNodeAt bytes found statement others = record { named = first.0; alone = second.alone; form_is = whole } in
     let P : Name → Type 0 = λ n. IsNodeAt bytes n node rest in
     subst P is_name (subst₂ (IsNodeAt bytes found) is_node outer.1 node_is))))
@@ -190,7 +195,7 @@ add-is bytes behind command rest begins h =
     let both = node-is behind group node others read in
     subst₂ (IsCommandAt bytes) pair.0 pair.1 (record {
       good = (both.named, both.alone);
-      form_is = begins ∙ ap (λ t. codes "add " ++ t) both.form_is ∙ sym (parted (codes "add ") (quoted group) (codes " ") (text_of node) others);
+      form_is = begins ∙ ap (λ t. codes "add " ++ t) both.form_is ∙ sym (parted (codes "add ") (quoted group) (codes " ") (statement_text node) others);
     }))
 
 -- a new node before another
@@ -201,7 +206,7 @@ insert-is bytes behind command rest begins h =
     let both = node-is behind name node others read in
     subst₂ (IsCommandAt bytes) pair.0 pair.1 (record {
       good = (both.named, both.alone);
-      form_is = begins ∙ ap (λ t. codes "insert " ++ t) both.form_is ∙ sym (parted (codes "insert ") (quoted name) (codes " ") (text_of node) others);
+      form_is = begins ∙ ap (λ t. codes "insert " ++ t) both.form_is ∙ sym (parted (codes "insert ") (quoted name) (codes " ") (statement_text node) others);
     }))
 
 -- a node that goes
@@ -221,11 +226,9 @@ rename-is bytes behind command rest begins h =
     let pair = parts (Change (Rename name new)) command others rest h3 in
     let first = text-is behind name after_name named in
     let second = title-is next new others titled in
-    let between : after_name ≡ codes " " ++ next = after-is (codes " ") after_name next blank in
-    let whole : behind ≡ quoted name ++ (codes " " ++ (quoted new ++ others)) = first.1 ∙ ap (λ t. quoted name ++ t) (between ∙ ap (λ t. codes " " ++ t) second.1) in
     subst₂ (IsCommandAt bytes) pair.0 pair.1 (record {
       good = (first.0, second.0);
-      form_is = begins ∙ ap (λ t. codes "rename " ++ t) whole ∙ sym (parted (codes "rename ") (quoted name) (codes " ") (quoted new) others);
+      form_is = two-parts (codes "rename ") (quoted name) (quoted new) bytes behind after_name next others begins first.1 blank second.1;
     }))))
 
 -- a print

@@ -1,4 +1,4 @@
-pub mod NameLemmas
+pub mod TitleLemmas
 pub mod YearLemmas
 pub mod CommandLemmas
 pub mod LineLemmas

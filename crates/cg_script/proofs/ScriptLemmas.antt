@@ -7,13 +7,13 @@ use Rattle.std.proofs.lemmas.List.{length-map}
 use Rattle.std.proofs.lemmas.Int.{ints}
 use Rattle.cg_num.specs.Year.{IsYear}
 use Rattle.cg_model.proofs.PlaceLemmas.{All-slice_get}
-use Rattle.cg_form.specs.Text.{IsText, IsEnd}
-use Rattle.cg_form.proofs.StepLemmas.{passes, none-some}
+use Rattle.cg_text.specs.Text.{IsText, IsEnd}
+use Rattle.cg_text.proofs.StepLemmas.{passes, none-some}
 use Rattle.cg_form.proofs.ModelLemmas.{stated-range, written-range}
 use Rattle.cg_sharing.specs.Edit.{Set, Add, InsertBefore, Drop, Rename}
 use Rattle.cg_sharing.specs.Command.{Command, Grid, Open, Take, Undo, Change, Commit, Print, Line}
 use Rattle.cg_sharing.specs.Course.{IsFit, AreFit}
-use Rattle.cg_script.specs.Form.{IsGridYear, IsCommand, text_of_command, line_of, is_print, lines_from, IsScript, HasNoScript, IsBounded}
+use Rattle.cg_script.specs.Form.{IsGridYear, IsCommand, command_text, line_text, is_print, lines_from, IsScript, HasNoScript, IsBounded}
 use Rattle.cg_script.specs.Reading.{line_at, commands_at}
 use Rattle.cg_script.proofs.LineLemmas.{first-line, line-is, no-line}
 
@@ -37,7 +37,7 @@ no-front (c ∷ cs) missing h = absurd cc
 
 -- commands up to the end of a script
 pub commands-append : (left : ℕ) (before commands : List Command) (bytes missing : List ℕ) → All IsCommand commands → length commands ≤ left → IsEnd missing
-    → bytes ++ missing ≡ flat_map line_of commands → commands_at left before bytes ≡ Some (before ++ commands)
+    → bytes ++ missing ≡ flat_map line_text commands → commands_at left before bytes ≡ Some (before ++ commands)
 commands-append left before [] bytes missing each few ended h =
     ap (λ t. commands_at left before t) (no-front bytes missing h) ∙ at-end left before ∙ ap (λ cs. Some cs) (sym (append-nil before))
 commands-append zero before (c ∷ cs) bytes missing each few ended h = absurd (omega arith)
@@ -56,7 +56,7 @@ pub record AreCommandsAt (left : ℕ) (before : List Command) (bytes : List ℕ)
   pub few : length commands ≤ left
   pub says : before ++ commands ≡ all
   pub ended : IsEnd missing
-  pub form : bytes ++ missing ≡ flat_map line_of commands
+  pub form : bytes ++ missing ≡ flat_map line_text commands
 
 -- no more of them
 none-at : (left : ℕ) (before all : List Command) → ◌≡◌ {A = Option (List Command)} (Some before) (Some all) → AreCommandsAt left before [] all
@@ -65,7 +65,7 @@ none-at left before all h =
     record { commands = []; missing = []; good = All-nil IsCommand; few = omega arith; says = append-nil before ∙ same; ended = inl refl; form = refl }
 
 -- the last one, without its LF
-last-at : (left : ℕ) (before : List Command) (bytes : List ℕ) (command : Command) (all : List Command) → IsCommand command → bytes ≡ text_of_command command
+last-at : (left : ℕ) (before : List Command) (bytes : List ℕ) (command : Command) (all : List Command) → IsCommand command → bytes ≡ command_text command
     → commands_at left (before ++ command ∷ []) [] ≡ Some all → AreCommandsAt (suc left) before bytes all
 last-at left before bytes command all good written h =
     let same : ◌≡◌ {A = Option (List Command)} (Some (before ++ command ∷ [])) (Some all) = sym (at-end left (before ++ command ∷ [])) ∙ h in
@@ -77,11 +77,11 @@ last-at left before bytes command all good written h =
       few = omega arith;
       says = says;
       ended = inr refl;
-      form = ap (λ t. t ++ codes "\n") written ∙ sym (append-nil (line_of command));
+      form = ap (λ t. t ++ codes "\n") written ∙ sym (append-nil (line_text command));
     }
 
 -- one, and then others
-one-more : (left : ℕ) (before : List Command) (bytes : List ℕ) (command : Command) (rest : List ℕ) (all : List Command) → IsCommand command → bytes ≡ text_of_command command ++ 10 ∷ rest
+one-more : (left : ℕ) (before : List Command) (bytes : List ℕ) (command : Command) (rest : List ℕ) (all : List Command) → IsCommand command → bytes ≡ command_text command ++ 10 ∷ rest
     → AreCommandsAt left (before ++ command ∷ []) rest all → AreCommandsAt (suc left) before bytes all
 one-more left before bytes command rest all good written others =
     record {
@@ -91,8 +91,8 @@ one-more left before bytes command rest all good written others =
       few = omega (arith, others.few);
       says = sym (append_assoc before (command ∷ []) others.commands) ∙ others.says;
       ended = others.ended;
-      form = ap (λ t. t ++ others.missing) written ∙ append_assoc (text_of_command command) (10 ∷ rest) others.missing ∙ ap (λ t. text_of_command command ++ 10 ∷ t) others.form
-          ∙ sym (append_assoc (text_of_command command) (codes "\n") (flat_map line_of others.commands));
+      form = ap (λ t. t ++ others.missing) written ∙ append_assoc (command_text command) (10 ∷ rest) others.missing ∙ ap (λ t. command_text command ++ 10 ∷ t) others.form
+          ∙ sym (append_assoc (command_text command) (codes "\n") (flat_map line_text others.commands));
     }
 
 -- what was read is commands

@@ -4,9 +4,9 @@ use Rattle.std.specs.List.{prefix_len}
 use Rattle.std.specs.Char.{is_ascii_digit}
 use Rattle.std.specs.Fmt.{signed_decimal}
 use Rattle.std.proofs.lemmas.Int.{ints}
-use Rattle.cg_form.specs.Pieces.{number_at}
-use Rattle.cg_form.proofs.StepLemmas.{passes, parts, if-some}
-use Rattle.cg_form.proofs.NumberLemmas.{number-append, number-is}
+use Rattle.cg_text.specs.Pieces.{number_at}
+use Rattle.cg_text.proofs.StepLemmas.{passes, parts, if-some}
+use Rattle.cg_text.proofs.NumberLemmas.{number-append, number-is}
 use Rattle.cg_script.specs.Form.{IsGridYear}
 use Rattle.cg_script.specs.Reading.{grid_year, year_at}
 

@@ -1,24 +1,13 @@
 -- The plain Form of a session script: one command a line, with single blanks and LF line ends. chron's own.
-use Rattle.std.specs.Prelude.{◌≡◌, ℕ, ◌+◌, ◌^◌, ◌<◌, ◌≤◌, Bool, true, false, ◌==◌, ◌||◌, List, [], ◌∷◌, ◌++◌, length, All, IsTrue, codes, decimal, count_by, ℤ, pos, ◌≤ℤ◌}
-use Rattle.std.specs.List.{list_all, flat_map}
-use Rattle.std.specs.Char.{is_ascii_alphanumeric}
+use Rattle.std.specs.Prelude.{◌≡◌, ℕ, ◌+◌, ◌^◌, ◌<◌, ◌≤◌, Bool, true, false, List, [], ◌∷◌, ◌++◌, length, All, codes, decimal, count_by, ℤ, pos, ◌≤ℤ◌}
+use Rattle.std.specs.List.{flat_map}
 use Rattle.std.specs.Fmt.{signed_decimal}
-use Rattle.cg_meaning.specs.Tree.{Name}
-use Rattle.cg_form.specs.Text.{IsText, quoted, IsEnd}
-use Rattle.cg_form.specs.Model.{IsStated, nameless, IsTitle, text_of, IsAlone}
+use Rattle.cg_text.specs.Text.{IsText, IsTitle, quoted, IsEnd}
+use Rattle.cg_text.specs.Names.{IsName}
+use Rattle.cg_form.specs.Model.{IsStated, nameless, statement_text, IsAlone}
 use Rattle.cg_sharing.specs.Edit.{Edit, Set, Add, InsertBefore, Drop, Rename}
 use Rattle.cg_sharing.specs.Course.{AreFit}
 use Rattle.cg_sharing.specs.Command.{Command, Grid, Open, Take, Undo, Change, Commit, Print, Line}
-
--- what the name of a model consists of: letters, digits, `_`, `-` and `.`
-abbrev pub is_name_byte : ℕ → Bool
-is_name_byte c = is_ascii_alphanumeric c || c == 95 || c == 45 || c == 46
-
--- the name of a model: 1 to 64 of these
-pub record IsName (name : Name) : Type 0 where
-  pub some : 1 ≤ length name
-  pub short : length name ≤ 64
-  pub plain : IsTrue (list_all is_name_byte name)
 
 -- the years of grids, cal BP
 abbrev pub IsGridYear : ℤ → Type 0
@@ -33,12 +22,12 @@ IsChange (Drop name) = IsText name
 IsChange (Rename name new) = IsText name × IsTitle new
 
 -- a dating stands without a name
-abbrev pub text_of_change : Edit → List ℕ
-text_of_change (Set event dating) = codes "set " ++ quoted event ++ codes " " ++ nameless dating
-text_of_change (Add group node) = codes "add " ++ quoted group ++ codes " " ++ text_of node
-text_of_change (InsertBefore name node) = codes "insert " ++ quoted name ++ codes " " ++ text_of node
-text_of_change (Drop name) = codes "drop " ++ quoted name
-text_of_change (Rename name new) = codes "rename " ++ quoted name ++ codes " " ++ quoted new
+abbrev pub change_text : Edit → List ℕ
+change_text (Set event dating) = codes "set " ++ quoted event ++ codes " " ++ nameless dating
+change_text (Add group node) = codes "add " ++ quoted group ++ codes " " ++ statement_text node
+change_text (InsertBefore name node) = codes "insert " ++ quoted name ++ codes " " ++ statement_text node
+change_text (Drop name) = codes "drop " ++ quoted name
+change_text (Rename name new) = codes "rename " ++ quoted name ++ codes " " ++ quoted new
 
 -- what each command may be given
 abbrev pub IsCommand : Command → Type 0
@@ -51,18 +40,18 @@ IsCommand (Commit name) = IsName name
 IsCommand (Print event) = IsText event
 
 -- a command as it stands in the script
-abbrev pub text_of_command : Command → List ℕ
-text_of_command (Grid older younger) = codes "grid " ++ signed_decimal older ++ codes " " ++ signed_decimal younger
-text_of_command (Open name) = codes "open " ++ name
-text_of_command (Take version) = codes "take v" ++ decimal version
-text_of_command Undo = codes "undo"
-text_of_command (Change edit) = text_of_change edit
-text_of_command (Commit name) = codes "commit " ++ name
-text_of_command (Print event) = codes "print " ++ quoted event
+abbrev pub command_text : Command → List ℕ
+command_text (Grid older younger) = codes "grid " ++ signed_decimal older ++ codes " " ++ signed_decimal younger
+command_text (Open name) = codes "open " ++ name
+command_text (Take version) = codes "take v" ++ decimal version
+command_text Undo = codes "undo"
+command_text (Change edit) = change_text edit
+command_text (Commit name) = codes "commit " ++ name
+command_text (Print event) = codes "print " ++ quoted event
 
 -- its line
-abbrev pub line_of : Command → List ℕ
-line_of command = text_of_command command ++ codes "\n"
+abbrev pub line_text : Command → List ℕ
+line_text command = command_text command ++ codes "\n"
 
 abbrev pub is_print : Command → Bool
 is_print (Grid older younger) = false
@@ -87,7 +76,7 @@ pub record IsScript (bytes : List ℕ) (lines : List Line) : Type 0 where
   pub few : length commands ≤ 1000
   pub prints : count_by is_print commands ≤ 200
   pub ended : IsEnd missing
-  pub form : bytes ++ missing ≡ flat_map line_of commands
+  pub form : bytes ++ missing ≡ flat_map line_text commands
   pub numbered : lines ≡ lines_from 1 commands
 
 -- the bytes are not in the Form of a script

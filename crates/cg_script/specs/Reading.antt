@@ -1,16 +1,12 @@
 -- How a script is read from front to back: what it says, or none.
 use Rattle.std.specs.Prelude.{ℕ, zero, suc, List, [], ◌∷◌, ◌++◌, codes, Option, Some, None, ℤ, pos, nat_le, if◌then◌else◌}
 use Rattle.cg_meaning.specs.Tree.{Name, Tree}
-use Rattle.cg_form.specs.Pieces.{◌>>=◌, after, behind_or, run_at, text_at, number_at}
+use Rattle.cg_text.specs.Pieces.{◌>>=◌, after, behind_or, text_at, number_at}
+use Rattle.cg_text.specs.Names.{name_at}
 use Rattle.cg_form.specs.Values.{nameless_at}
 use Rattle.cg_form.specs.Reading.{alone_at}
 use Rattle.cg_sharing.specs.Edit.{Set, Add, InsertBefore, Drop, Rename}
 use Rattle.cg_sharing.specs.Command.{Command, Grid, Open, Take, Undo, Change, Commit, Print}
-use Rattle.cg_script.specs.Form.{is_name_byte}
-
--- the name of a model, with no byte of a name behind it
-abbrev pub name_at : List ℕ → Option (Name × List ℕ)
-name_at bytes = run_at is_name_byte 64 bytes
 
 -- the new name of a node between its quotes: a text, or none
 abbrev pub title_at : List ℕ → Option (Name × List ℕ)

@@ -3,9 +3,9 @@ ghost use Rattle.std.specs.Prelude.{◌≡◌, option_map};
 ghost use Rattle.cg_script.specs.Reading.{title_at, set_at, drop_at, rename_at, commit_at, print_at, change_at};
 ghost use Rattle.cg_script.specs.Written.{said_by};
 
-use crate::name::name_at;
 use crate::written::Written;
-use cg_form::{after, nameless_at, text_at};
+use cg_form::nameless_at;
+use cg_text::{after, name_at, text_at};
 
 // the new name of a node between its quotes, which may be empty
 fn title_at(bytes: &[u8]) -> Option<(&str, &[u8])>

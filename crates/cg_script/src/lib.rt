@@ -10,10 +10,7 @@ mod command;
 mod fault;
 mod laws;
 mod line;
-mod name;
 mod script;
-#[cfg(test)]
-mod tests;
 mod written;
 
 pub use command::Command;

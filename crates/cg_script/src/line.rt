@@ -8,12 +8,12 @@ ghost use Rattle.cg_script.specs.Written.{said_by};
 use crate::change::change_at;
 use crate::command::Command;
 use crate::fault::ScriptFault;
-use crate::name::name_at;
 use crate::written::{Written, owned};
 use cg_edit::Edit;
-use cg_form::{FormFault, after, alone_at, name_of, number_at, text_at};
+use cg_form::{FormFault, alone_at};
 use cg_model::{Name, Node};
 use cg_num::Year;
+use cg_text::{after, name_at, name_of, number_at, text_at};
 use std::alloc::Global;
 
 const YEAR_DIGITS: usize = 5;

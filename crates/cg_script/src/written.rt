@@ -5,9 +5,9 @@ ghost use Rattle.cg_script.specs.Written.{said_by};
 
 use crate::command::Command;
 use cg_edit::Edit;
-use cg_form::name_of;
 use cg_model::Dating;
 use cg_num::{NoMemory, Year};
+use cg_text::name_of;
 use std::alloc::Global;
 
 /// A command other than `add` and `insert`, whose names still stand in the bytes.

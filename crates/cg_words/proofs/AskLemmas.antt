@@ -1,6 +1,7 @@
 -- Lists ask for one request, and words for one thing.
 use Rattle.std.proofs.Common.{◌≡◌, ℕ, ◌≤◌, List, length, All, AllPairs, Option, Some, None, IfNone, Result, Ok, Err, IfOk, sym, ap, ◌∙◌, subst, arith}
-use Rattle.cg_words.specs.Words.{Lists, Request, NamedFile, IsSameName, IsTurn, AreNamed, AreSessions, AreTurns, MayBe, AskFor, AskForOneThing, AreNoWords, AreLists, IsRequest}
+use Rattle.cg_curve.specs.Curves.{IsSameName}
+use Rattle.cg_words.specs.Words.{Lists, Request, NamedFile, IsTurn, AreNamed, AreSessions, AreTurns, MayBe, AskFor, AskForOneThing, AreNoWords, AreLists, IsRequest}
 use Rattle.cg_words.specs.Reading.{HasNoLists, Nothing}
 use Rattle.cg_words.proofs.ListsLemmas.{one-lists}
 use Rattle.cg_words.proofs.FilesLemmas.{one-named, session-parts}

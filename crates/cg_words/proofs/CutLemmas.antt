@@ -5,7 +5,9 @@ use Rattle.std.specs.Char.{is_ascii_digit}
 use Rattle.std.proofs.lemmas.Bool.{ne_eqb}
 use Rattle.std.proofs.lemmas.List.Elements.{All-contains, Contains-get_or, Contains-append_cases}
 use Rattle.std.proofs.lemmas.List.Splits.{slice_split_none, slice_split_at, length-slice_split, join_with_byte-slice_split}
-use Rattle.cg_words.specs.Words.{NamedFile, IsName, IsNamedFile, IsNumeral, is_name_byte, text_of}
+use Rattle.cg_text.specs.Names.{is_name_byte, IsName}
+use Rattle.cg_text.proofs.NameLemmas.{name-bytes}
+use Rattle.cg_words.specs.Words.{NamedFile, IsNamedFile, IsNumeral, part_text}
 use Rattle.cg_words.specs.Reading.{parts_of}
 
 -- no comma stands in the part
@@ -38,7 +40,7 @@ some-part list = omega (arith, length-slice_split (λ byte. byte == 44) list)
 
 -- a name has no comma
 name-comma : (name : List ℕ) → IsName name → HasNoComma name
-name-comma name h inside = let wrong : IsTrue (is_name_byte 44) = All-contains (λ byte. IsTrue (is_name_byte byte)) name 44 h.bytes inside in cc
+name-comma name h inside = let wrong : IsTrue (is_name_byte 44) = All-contains (λ byte. IsTrue (is_name_byte byte)) name 44 (name-bytes name h) inside in cc
 
 -- behind the mark nothing new stands
 behind-at : (file : List ℕ) → HasNoComma file → (k : ℕ) → k < length (61 ∷ file) → get_or (61 ∷ file) k 44 ≡ 44 → ⊥
@@ -49,7 +51,7 @@ behind-mark : (file : List ℕ) → HasNoComma file → HasNoComma (61 ∷ file)
 behind-mark file h inside = behind-at file h inside.0 inside.1 inside.2
 
 -- so has a NAME=FILE
-pub named-comma : (named : NamedFile) → IsNamedFile named → HasNoComma (text_of named)
+pub named-comma : (named : NamedFile) → IsNamedFile named → HasNoComma (part_text named)
 named-comma named h inside =
     elim (Contains-append_cases named.name (61 ∷ named.file) 44 inside) [
       | inl there ↦ name-comma named.name h.name there

@@ -8,15 +8,16 @@ use Rattle.std.proofs.lemmas.List.{length-map, get_or-map}
 use Rattle.std.proofs.lemmas.List.Elements.{All-nil, All-cons, All-map, All-weaker}
 use Rattle.std.proofs.lemmas.List.Folds.{list_any_none, list_any_at}
 use Rattle.std.proofs.lemmas.List.Kept.{AllPairs-cons}
-use Rattle.cg_words.specs.Words.{NamedFile, IsNamedFile, NamesNothing, IsFile, IsSameName, text_of, AreNamed, AreSessions}
+use Rattle.cg_curve.specs.Curves.{IsSameName}
+use Rattle.cg_words.specs.Words.{NamedFile, IsNamedFile, NamesNothing, IsFile, part_text, AreNamed, AreSessions}
 use Rattle.cg_words.specs.Reading.{parts_of, HasPart, SaysNamed, AreFiles, is_same_name, are_distinct}
-use Rattle.cg_words.proofs.TestLemmas.{and-both}
+use Rattle.cg_text.proofs.StepLemmas.{and-both}
 use Rattle.cg_words.proofs.NamedLemmas.{at_mark, behind}
 use Rattle.cg_words.proofs.CutLemmas.{HasNoComma, parts-of-list, list-of-parts, some-part, named-comma}
 
 -- Parts that say named files.
 pub record ArePartsNamed (parts : List (List ℕ)) (named : List NamedFile) : Type 0 where
-  pub texts : map text_of named ≡ parts
+  pub texts : map part_text named ≡ parts
   pub files : All IsNamedFile named
 
 -- what was read part by part
@@ -32,7 +33,7 @@ parts-named (part ∷ parts) (one ∷ others) h =
     }
 
 -- a text is of one NAME=FILE
-same-named : (a b : NamedFile) → IsNamedFile a → IsNamedFile b → text_of a ≡ text_of b → a ≡ b
+same-named : (a b : NamedFile) → IsNamedFile a → IsNamedFile b → part_text a ≡ part_text b → a ≡ b
 same-named a b first second e =
     let place : length a.name ≡ length b.name =
     sym (at_mark a.name a.file first.name) ∙ ap (λ t. position_or_len (λ c. c == 61) t) e ∙ at_mark b.name b.file second.name in
@@ -43,20 +44,20 @@ same-named a b first second e =
     ap₂ (λ n f. record { name = n; file = f }) name file
 
 -- and texts of one list of them
-same-files : (xs ys : List NamedFile) → All IsNamedFile xs → All IsNamedFile ys → map text_of xs ≡ map text_of ys → xs ≡ ys
+same-files : (xs ys : List NamedFile) → All IsNamedFile xs → All IsNamedFile ys → map part_text xs ≡ map part_text ys → xs ≡ ys
 same-files [] [] first second e = refl
 same-files [] (y ∷ ys) first second e = absurd cc
 same-files (x ∷ xs) [] first second e = absurd cc
 same-files (x ∷ xs) (y ∷ ys) first second e =
-    let one : text_of x ≡ text_of y = cc in
-    let others : map text_of xs ≡ map text_of ys = cc in
+    let one : part_text x ≡ part_text y = cc in
+    let others : map part_text xs ≡ map part_text ys = cc in
     ap₂ (λ z zs. z ∷ zs) (same-named x y (first 0 x (omega arith)) (second 0 y (omega arith)) one)
     (same-files xs ys (λ k d below. first (suc k) d (omega arith)) (λ k d below. second (suc k) d (omega arith)) others)
 
 -- the parts of named files are their texts
-named-parts : (most : ℕ) (IsSame : List ℕ → List ℕ → Type 0) (list : List ℕ) (named : List NamedFile) → AreNamed most IsSame list named → parts_of list ≡ map text_of named
+named-parts : (most : ℕ) (IsSame : List ℕ → List ℕ → Type 0) (list : List ℕ) (named : List NamedFile) → AreNamed most IsSame list named → parts_of list ≡ map part_text named
 named-parts most IsSame list named h =
-    parts-of-list list (map text_of named) h.form (rw length-map h.some) (All-map HasNoComma text_of named (All-weaker IsNamedFile (λ one. HasNoComma (text_of one)) named-comma named h.files))
+    parts-of-list list (map part_text named) h.form (rw length-map h.some) (All-map HasNoComma part_text named (All-weaker IsNamedFile (λ one. HasNoComma (part_text one)) named-comma named h.files))
 
 -- what was read is what the list names
 pub read-named : (most : ℕ) (IsSame : List ℕ → List ℕ → Type 0) (list : List ℕ) (read named : List NamedFile) → AllZip SaysNamed (parts_of list) read → AreNamed most IsSame list named → named ≡ read
@@ -74,9 +75,9 @@ pub are-named : (most : ℕ) (IsSame : List ℕ → List ℕ → Type 0) (list :
     → AllPairs (λ a b. ¬ IsSame a.name b.name) read → AreNamed most IsSame list read
 are-named most IsSame list read h few distinct =
     let parts = parts-named (parts_of list) read h in
-    let size : length read ≡ length (parts_of list) = sym (length-map read text_of) ∙ ap length parts.texts in
+    let size : length read ≡ length (parts_of list) = sym (length-map read part_text) ∙ ap length parts.texts in
     record {
-      form = list-of-parts list (map text_of read) parts.texts;
+      form = list-of-parts list (map part_text read) parts.texts;
       some = omega (arith, size, some-part list);
       few = few;
       files = parts.files;
@@ -87,9 +88,9 @@ are-named most IsSame list read h few distinct =
 pub names-nothing : (most : ℕ) (IsSame : List ℕ → List ℕ → Type 0) (list : List ℕ) (named : List NamedFile) → HasPart NamesNothing list → AreNamed most IsSame list named → ⊥
 names-nothing most IsSame list named (part, (k, below, here), faulty) are =
     let parts = named-parts most IsSame list named are in
-    let within : k < length named = omega (arith, ap length parts, length-map named text_of) in
+    let within : k < length named = omega (arith, ap length parts, length-map named part_text) in
     let none : NamedFile = record { name = []; file = [] } in
-    let text : part ≡ text_of (get_or named k none) = sym here ∙ ap (λ ps. get_or ps k part) parts ∙ get_or-map text_of named k none part within in
+    let text : part ≡ part_text (get_or named k none) = sym here ∙ ap (λ ps. get_or ps k part) parts ∙ get_or-map part_text named k none part within in
     faulty (get_or named k none) (are.files k none within) text
 
 -- the test of distinct names

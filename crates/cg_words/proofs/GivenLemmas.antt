@@ -1,12 +1,16 @@
 -- The options of the command, and how they are found.
-use Rattle.std.proofs.Common.{◌≡◌, ◌≢◌, ℕ, zero, suc, ◌<◌, inl, inr, true, ◌&&◌, List, [], ◌∷◌, length, get_or, bytes_eq, codes, All, AllPairs, Option, Some, None, is_none, refl, sym, ap, ap₂, ◌∙◌, arith, Decides}
+use Rattle.std.proofs.Common.{◌≡◌, ◌≢◌, ℕ, zero, suc, ◌<◌, inl, inr, true, false, ◌&&◌, List, [], ◌∷◌, length, get_or, bytes_eq, codes, All, AllPairs, Option, Some, None, is_none, refl, sym, ap, ap₂, ◌∙◌, arith, Decides}
 use Rattle.std.proofs.lemmas.Bool.Decides.{Decides-or}
 use Rattle.std.proofs.lemmas.List.Elements.{All-nil, All-cons}
 use Rattle.std.proofs.lemmas.List.Kept.{AllPairs-cons}
 use Rattle.std.proofs.lemmas.Slice.Eq.{bytes_eq-Decides}
-use Rattle.cg_words.specs.Words.{Given, words_of, IsOption, Stands}
+use Rattle.cg_text.proofs.StepLemmas.{is-either, and-both}
+use Rattle.cg_words.specs.Words.{Given, words_of, IsOption, IsGiven}
 use Rattle.cg_words.specs.Reading.{list_of, is_option, are_options}
-use Rattle.cg_words.proofs.TestLemmas.{is-either, and-both, other-texts}
+
+-- other texts are told apart
+other-texts : (a b : List ℕ) → a ≢ b → bytes_eq a b ≡ false
+other-texts a b h = elim (is-either (bytes_eq a b)) [ inl e ↦ absurd (h ((bytes_eq-Decides a b).0 e)) | inr e ↦ e ]
 
 -- the words two by two
 abbrev pub given_in : List (List ℕ) → List Given
@@ -31,11 +35,11 @@ left-out option (word ∷ list ∷ others) h =
           All-cons (λ one. one.option ≢ option) (record { option = word; list = list }) (given_in others) other (left-out option others more)
     ]
 
--- what was found stands
-pub stands : (option list : List ℕ) (words : List (List ℕ)) → list_of option words ≡ Some list → Stands (given_in words) option list
-stands option list [] h = absurd cc
-stands option list (word ∷ []) h = absurd cc
-stands option list (word ∷ first ∷ others) h =
+-- what was found is given
+pub is_given : (option list : List ℕ) (words : List (List ℕ)) → list_of option words ≡ Some list → IsGiven (given_in words) option list
+is_given option list [] h = absurd cc
+is_given option list (word ∷ []) h = absurd cc
+is_given option list (word ∷ first ∷ others) h =
     elim (is-either (bytes_eq word option)) [
       | inl e ↦ let found : ◌≡◌ {A = Option (List ℕ)} (Some first) (Some list) = rw e at h in
           let same_list : first ≡ list = cc in
@@ -43,7 +47,7 @@ stands option list (word ∷ first ∷ others) h =
           ap₂ (λ o l. record { option = o; list = l }) ((bytes_eq-Decides word option).0 e) same_list in
           (0, omega arith, here)
       | inr e ↦ let more : list_of option others ≡ Some list = rw e at h in
-          let (k, below, there) = stands option list others more in
+          let (k, below, there) = is_given option list others more in
           (suc k, omega arith, there)
     ]
 
@@ -99,7 +103,7 @@ found-at option list (one ∷ others) (suc k) below here once =
     rw (other-texts one.option option apart) (found-at option list others k (omega arith) here (λ i j d before within. once (suc i) (suc j) d (omega arith) (omega arith)))
 
 -- one that stands is found
-pub found : (option list : List ℕ) (given : List Given) → AllPairs (λ a b. a.option ≢ b.option) given → Stands given option list → list_of option (words_of given) ≡ Some list
+pub found : (option list : List ℕ) (given : List Given) → AllPairs (λ a b. a.option ≢ b.option) given → IsGiven given option list → list_of option (words_of given) ≡ Some list
 found option list given once (k, below, here) = found-at option list given k below here once
 
 -- known options that stand once are options

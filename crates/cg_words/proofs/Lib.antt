@@ -6,5 +6,4 @@ pub mod ListsLemmas
 pub mod NamedLemmas
 pub mod OptionLemmas
 pub mod PartLemmas
-pub mod TestLemmas
 pub mod TurnLemmas

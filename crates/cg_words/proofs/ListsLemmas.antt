@@ -1,9 +1,9 @@
 -- The lists of the words are what is found among the options.
 use Rattle.std.proofs.Common.{◌≡◌, ℕ, ◌≤◌, ◌-◌, true, List, [], ◌∷◌, length, map, take, drop, get_or, codes, Option, Some, None, refl, sym, ap, ◌∙◌, subst, arith}
 use Rattle.std.proofs.lemmas.List.{take_all}
-use Rattle.cg_words.specs.Words.{Lists, words_of, MayStand, AreLists}
+use Rattle.cg_words.specs.Words.{Lists, words_of, MayBeGiven, AreLists}
 use Rattle.cg_words.specs.Reading.{list_of, are_options}
-use Rattle.cg_words.proofs.GivenLemmas.{given_in, left-out, stands, words-given, all-known, all-once, not-found, found, are-options}
+use Rattle.cg_words.proofs.GivenLemmas.{given_in, left-out, is_given, words-given, all-known, all-once, not-found, found, are-options}
 
 -- The lists as they are found behind the command.
 pub record AreFound (options : List (List ℕ)) (lists : Lists) : Type 0 where
@@ -13,10 +13,10 @@ pub record AreFound (options : List (List ℕ)) (lists : Lists) : Type 0 where
   pub sessions : list_of (codes "--sessions") options ≡ Some lists.sessions
   pub turns : list_of (codes "--turns") options ≡ lists.turns
 
--- what was found or not stands or is left out
-may-stand : (option : List ℕ) (words : List (List ℕ)) (list : Option (List ℕ)) → list_of option words ≡ list → MayStand (given_in words) option list
-may-stand option words None h = left-out option words h
-may-stand option words (Some list) h = stands option list words h
+-- what was found or not is given or left out
+may-be-given : (option : List ℕ) (words : List (List ℕ)) (list : Option (List ℕ)) → list_of option words ≡ list → MayBeGiven (given_in words) option list
+may-be-given option words None h = left-out option words h
+may-be-given option words (Some list) h = is_given option list words h
 
 -- what is found are the lists
 pub lists-found : (options : List (List ℕ)) (lists : Lists) → AreFound options lists → AreLists (codes "alone" ∷ options) lists
@@ -25,14 +25,14 @@ lists-found options lists h = record {
   form = ap (λ ws. codes "alone" ∷ ws) (words-given options h.good);
   known = all-known options h.good;
   once = all-once options h.good;
-  curves = may-stand (codes "--curves") options lists.curves h.curves;
-  models = stands (codes "--models") lists.models options h.models;
-  sessions = stands (codes "--sessions") lists.sessions options h.sessions;
-  turns = may-stand (codes "--turns") options lists.turns h.turns;
+  curves = may-be-given (codes "--curves") options lists.curves h.curves;
+  models = is_given (codes "--models") lists.models options h.models;
+  sessions = is_given (codes "--sessions") lists.sessions options h.sessions;
+  turns = may-be-given (codes "--turns") options lists.turns h.turns;
 }
 
 -- an option that may be left out
-may-find : (words : List (List ℕ)) (lists : Lists) (h : AreLists words lists) (option : List ℕ) (list : Option (List ℕ)) → MayStand h.given option list → list_of option (words_of h.given) ≡ list
+may-find : (words : List (List ℕ)) (lists : Lists) (h : AreLists words lists) (option : List ℕ) (list : Option (List ℕ)) → MayBeGiven h.given option list → list_of option (words_of h.given) ≡ list
 may-find words lists h option None out = not-found option h.given out
 may-find words lists h option (Some list) there = found option list h.given h.once there
 

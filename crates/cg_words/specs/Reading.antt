@@ -3,7 +3,7 @@ use Rattle.std.specs.Prelude.{◌≡◌, bytes_eq, ℕ, Bool, true, false, not, 
 use Rattle.std.specs.List.{list_any, slice_split, Contains}
 use Rattle.std.specs.Str.{str_to_ascii_lowercase}
 use Rattle.cg_num.specs.Decimal.{number_of}
-use Rattle.cg_words.specs.Words.{NamedFile, IsNamedFile, text_of, IsFile, IsNumeral, IsTurn, Lists, AreLists}
+use Rattle.cg_words.specs.Words.{NamedFile, IsNamedFile, part_text, IsFile, IsNumeral, IsTurn, Lists, AreLists}
 use Rattle.cg_words.specs.declared.lists.Lists as declared
 
 -- the list behind the first such option
@@ -40,7 +40,7 @@ HasPart IsFaulty list = (part : List ℕ) × Contains (parts_of list) part × Is
 
 -- the part is this NAME=FILE
 abbrev pub SaysNamed : List ℕ → NamedFile → Type 0
-SaysNamed part named = (part ≡ text_of named) × IsNamedFile named
+SaysNamed part named = (part ≡ part_text named) × IsNamedFile named
 
 -- The parts are these files.
 pub record AreFiles (parts files : List (List ℕ)) : Type 0 where

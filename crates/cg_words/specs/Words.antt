@@ -1,9 +1,10 @@
 -- What the words of the command line ask for.
-use Rattle.std.specs.Prelude.{◌≡◌, ◌≢◌, ◌⊎◌, ℕ, ◌<◌, ◌≤◌, Bool, ◌||◌, ◌==◌, IsTrue, List, [], ◌∷◌, ◌++◌, length, map, codes, All, AllPairs, Option, Some, None}
+use Rattle.std.specs.Prelude.{◌≡◌, ◌≢◌, ◌⊎◌, ℕ, ◌<◌, ◌≤◌, IsTrue, List, [], ◌∷◌, ◌++◌, length, map, codes, All, AllPairs, Option, Some, None}
 use Rattle.std.specs.List.{Contains, join_with_byte}
-use Rattle.std.specs.Char.{is_ascii_digit, is_ascii_alphanumeric}
-use Rattle.std.specs.Str.{str_to_ascii_lowercase}
+use Rattle.std.specs.Char.{is_ascii_digit}
 use Rattle.cg_num.specs.Decimal.{number_of}
+use Rattle.cg_curve.specs.Curves.{IsSameName}
+use Rattle.cg_text.specs.Names.{IsName}
 
 -- a file that is known by a name: NAME=FILE
 pub record NamedFile : Type 0 where
@@ -18,15 +19,6 @@ pub record Request : Type 0 where
   pub sessions : List (List ℕ)
   pub turns : List ℕ
 
--- an ASCII letter or digit, `_`, `-` or `.`
-abbrev pub is_name_byte : ℕ → Bool
-is_name_byte byte = is_ascii_alphanumeric byte || byte == 95 || byte == 45 || byte == 46
-
-pub record IsName (name : List ℕ) : Type 0 where
-  pub some : 0 < length name
-  pub few : length name ≤ 64
-  pub bytes : All (λ byte. IsTrue (is_name_byte byte)) name
-
 -- commas part the files of a list
 pub record IsFile (file : List ℕ) : Type 0 where
   pub some : 0 < length file
@@ -37,20 +29,17 @@ pub record IsNamedFile (named : NamedFile) : Type 0 where
   pub name : IsName named.name
   pub file : IsFile named.file
 
-abbrev pub text_of : NamedFile → List ℕ
-text_of named = named.name ++ (61 ∷ named.file)
+-- the part NAME=FILE of a list
+abbrev pub part_text : NamedFile → List ℕ
+part_text named = named.name ++ (61 ∷ named.file)
 
 -- the text is no NAME=FILE
 abbrev pub NamesNothing : List ℕ → Type 0
-NamesNothing text = (named : NamedFile) → IsNamedFile named → text ≢ text_of named
-
--- the names are equal, ASCII case aside
-abbrev pub IsSameName : List ℕ → List ℕ → Type 0
-IsSameName a b = str_to_ascii_lowercase a ≡ str_to_ascii_lowercase b
+NamesNothing text = (named : NamedFile) → IsNamedFile named → text ≢ part_text named
 
 -- A list of so many named files at most, no two of them with the same name.
 pub record AreNamed (most : ℕ) (IsSame : List ℕ → List ℕ → Type 0) (list : List ℕ) (named : List NamedFile) : Type 0 where
-  pub form : list ≡ join_with_byte 44 (map text_of named)
+  pub form : list ≡ join_with_byte 44 (map part_text named)
   pub some : 0 < length named
   pub few : length named ≤ most
   pub files : All IsNamedFile named
@@ -115,14 +104,14 @@ words_of (given ∷ others) = given.option ∷ given.list ∷ words_of others
 abbrev pub IsOption : List ℕ → Type 0
 IsOption word = (word ≡ codes "--curves") ⊎ (word ≡ codes "--models") ⊎ (word ≡ codes "--sessions") ⊎ (word ≡ codes "--turns")
 
--- the option stands with this list
-abbrev pub Stands : List Given → List ℕ → List ℕ → Type 0
-Stands given option list = Contains given (record { option = option; list = list })
+-- the option is given with this list
+abbrev pub IsGiven : List Given → List ℕ → List ℕ → Type 0
+IsGiven given option list = Contains given (record { option = option; list = list })
 
--- the option stands with this list, or is left out
-abbrev pub MayStand : List Given → List ℕ → Option (List ℕ) → Type 0
-MayStand given option None = All (λ one. one.option ≢ option) given
-MayStand given option (Some list) = Stands given option list
+-- the option is given with this list, or is left out
+abbrev pub MayBeGiven : List Given → List ℕ → Option (List ℕ) → Type 0
+MayBeGiven given option None = All (λ one. one.option ≢ option) given
+MayBeGiven given option (Some list) = IsGiven given option list
 
 -- The words are the command, and behind it options in any order, each at most once, with these lists.
 pub record AreLists (words : List (List ℕ)) (lists : Lists) : Type 0 where
@@ -130,10 +119,10 @@ pub record AreLists (words : List (List ℕ)) (lists : Lists) : Type 0 where
   pub form : words ≡ codes "alone" ∷ words_of given
   pub known : All (λ one. IsOption one.option) given
   pub once : AllPairs (λ a b. a.option ≢ b.option) given
-  pub curves : MayStand given (codes "--curves") lists.curves
-  pub models : Stands given (codes "--models") lists.models
-  pub sessions : Stands given (codes "--sessions") lists.sessions
-  pub turns : MayStand given (codes "--turns") lists.turns
+  pub curves : MayBeGiven given (codes "--curves") lists.curves
+  pub models : IsGiven given (codes "--models") lists.models
+  pub sessions : IsGiven given (codes "--sessions") lists.sessions
+  pub turns : MayBeGiven given (codes "--turns") lists.turns
 
 -- The words ask for this.
 pub record AreWords (words : List (List ℕ)) (request : Request) : Type 0 where

@@ -17,8 +17,6 @@ mod lists;
 mod named;
 mod parts;
 mod request;
-#[cfg(test)]
-mod tests;
 mod turn;
 mod words;
 

@@ -1,6 +1,8 @@
 ghost use Rattle.std.specs.Prelude.{◌≡◌, ◌↔◌, IfSome, IfNone, IsTrue};
-ghost use Rattle.cg_words.specs.Words.{IsName, IsFile, IsNamedFile, NamesNothing, text_of};
+ghost use Rattle.cg_text.specs.Names.{IsName};
+ghost use Rattle.cg_words.specs.Words.{IsFile, IsNamedFile, NamesNothing, part_text};
 
+use cg_text::is_name;
 use std::marker::Model;
 
 /// A file that is known by a name.
@@ -38,16 +40,6 @@ impl<'a> NamedFile<'a> {
     }
 }
 
-fn is_name(text: &str) -> bool
-    ensures { IsTrue result ↔ IsName text.now }
-{
-    let is_name_byte = |byte: &u8| byte.is_ascii_alphanumeric()
-        || *byte == b'_'
-        || *byte == b'-'
-        || *byte == b'.';
-    !text.is_empty() && text.len() <= 64 && text.as_bytes().iter().all(is_name_byte)
-}
-
 /// Whether the text is a FILE.
 pub fn is_file(text: &str) -> bool
     ensures { IsTrue result ↔ IsFile text.now }
@@ -57,7 +49,7 @@ pub fn is_file(text: &str) -> bool
 
 /// The name and the file of a NAME=FILE, which is cut at its first `=`.
 pub fn named_file(text: &str) -> Option<NamedFile<'_>>
-    ensures some { IfSome result (λ named. IsNamedFile named × (text.now ≡ text_of named)) }
+    ensures some { IfSome result (λ named. IsNamedFile named × (text.now ≡ part_text named)) }
     ensures none { IfNone result (NamesNothing text.now) }
 {
     match text.split_once('=') {

@@ -1,5 +1,6 @@
 ghost use Rattle.std.specs.Prelude.{◌≡◌, ◌≢◌, ◌<◌, ◌≤◌, length, map, All, AllPairs};
-ghost use Rattle.cg_words.specs.Words.{IsFile, IsTurn, IsSameName, IsRequest};
+ghost use Rattle.cg_curve.specs.Curves.{IsSameName};
+ghost use Rattle.cg_words.specs.Words.{IsFile, IsTurn, IsRequest};
 
 use crate::named::NamedFile;
 use std::marker::Model;

@@ -1,5 +1,6 @@
 ghost use Rattle.std.specs.Prelude.{◌≡◌, IfSome, IfNone, IfOk, map, string_bytes, option_map};
-ghost use Rattle.cg_words.specs.Words.{AreNamed, IsSameName, AreSessions, AreTurns, MayBe, AskFor, AreWords, AreNoWords};
+ghost use Rattle.cg_curve.specs.Curves.{IsSameName};
+ghost use Rattle.cg_words.specs.Words.{AreNamed, AreSessions, AreTurns, MayBe, AskFor, AreWords, AreNoWords};
 ghost use Rattle.cg_words.specs.Reading.{Nothing, lists_in};
 
 use crate::distinct::{are_curve_names_distinct, are_names_distinct};

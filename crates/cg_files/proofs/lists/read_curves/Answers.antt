@@ -1,5 +1,4 @@
-use Rattle.std.proofs.Common.{◌+◌, ◌∷◌, [], map, take, sym, ap, subst, ◌∙◌, arith, take_all}
-use Rattle.std.proofs.lemmas.List.{map-append}
+use Rattle.std.proofs.Common.{◌+◌, ◌∷◌, [], map, refl, sym, ap, subst, ◌∙◌, arith, take_all}
 use Rattle.std.proofs.lemmas.Result.{err_from_is_err_and}
 use Rattle.cg_curve.specs.Curves.{NamedCurve, IsSameCurveName}
 use Rattle.cg_files.specs.Said.{a_curve}
@@ -7,7 +6,7 @@ use Rattle.cg_files.specs.Reading.{AreRead}
 use Rattle.cg_files.specs.Inputs.{names_of, curve_files, said_of_curves}
 use Rattle.cg_files.specs.declared.file.FileKind.TheVariants.{Curve}
 use Rattle.cg_files.proofs.EndLemmas.{read_none}
-use Rattle.cg_files.proofs.ListLemmas.{read_next, ends_next, names_next, few_names, new_name}
+use Rattle.cg_files.proofs.ListLemmas.{read_pushed, ends_next, names_pushed, few_names, new_name}
 use Rattle.cg_files.proofs.lists.read_curves.Goals as goal
 
 pub loop-place-init : goal.loop-place-init
@@ -38,19 +37,15 @@ push-requires-clause-new g c =
 
 pub loop-place-preserved : goal.loop-place-preserved
 loop-place-preserved g c =
-    let told = g.H.Shelf.told c.args.shelf.now in
-    let now = g.H.Shelf.told c.curve_of.new.shelf in
     let next : NamedCurve = record { name = c.as_bytes.result.now; curve = c.in_ok-curve.curve } in
     let pushed = c.in_ok-push.ensures.ok in
-    let said = ap said_of_curves pushed ∙ map-append (λ (one : NamedCurve). a_curve one.curve) c.loop-place.curves (next ∷ []) in
-    let named = ap (λ curves. map (λ (one : NamedCurve). one.name) curves) pushed ∙ map-append (λ (one : NamedCurve). one.name) c.loop-place.curves (next ∷ []) in
     record {
-      read = subst (λ s. AreRead told now (curve_files (take (c.loop-place.place + 1) c.args.named.now)) s) (sym said)
-          (read_next Curve (λ one. one.file) c.args.named.now c.loop-place.place c.index-named-place.result c.index-named-place.is c.loop-place-test.true _ _ _ _ _ c.file.ensures.file
-          c.loop-place.invariant.read (a_curve c.in_ok-curve.curve) c.in_ok-curve.ensures.read);
-      names = named
-          ∙ names_next c.args.named.now c.loop-place.place c.index-named-place.result c.index-named-place.is c.loop-place-test.true _ c.as_bytes.result.now
-          (c.as_bytes.ensures.value ∙ c.name.ensures.name) c.loop-place.invariant.names;
+      read =
+          read_pushed Curve (λ one. one.file) c.args.named.now c.loop-place.place c.index-named-place.result c.index-named-place.is c.loop-place-test.true _ _ _ _ _ c.file.ensures.file
+          c.loop-place.invariant.read (λ (one : NamedCurve). a_curve one.curve) c.loop-place.curves _ next refl pushed c.in_ok-curve.ensures.read;
+      names =
+          names_pushed c.args.named.now c.loop-place.place c.index-named-place.result c.index-named-place.is c.loop-place-test.true (λ (one : NamedCurve). one.name) c.loop-place.curves _ next
+          pushed (c.as_bytes.ensures.value ∙ c.name.ensures.name) c.loop-place.invariant.names;
       later = omega (arith, c.loop-place.invariant.later, c.curve_of.ensures.later);
     }
 

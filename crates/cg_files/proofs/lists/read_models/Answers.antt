@@ -1,5 +1,4 @@
-use Rattle.std.proofs.Common.{◌≢◌, ◌+◌, ◌∷◌, [], map, take, sym, ap, subst, ◌∙◌, arith, take_all}
-use Rattle.std.proofs.lemmas.List.{map-append}
+use Rattle.std.proofs.Common.{◌≢◌, ◌+◌, ◌∷◌, [], map, refl, sym, ap, subst, ◌∙◌, arith, take_all}
 use Rattle.std.proofs.lemmas.Result.{err_from_is_err_and}
 use Rattle.cg_sharing.specs.Versions.{StartModel}
 use Rattle.cg_files.specs.Said.{a_model}
@@ -7,7 +6,7 @@ use Rattle.cg_files.specs.Reading.{AreRead}
 use Rattle.cg_files.specs.Inputs.{names_of, model_files, said_of_models}
 use Rattle.cg_files.specs.declared.file.FileKind.TheVariants.{Model}
 use Rattle.cg_files.proofs.EndLemmas.{read_none}
-use Rattle.cg_files.proofs.ListLemmas.{read_next, ends_next, names_next, few_names, new_name}
+use Rattle.cg_files.proofs.ListLemmas.{read_pushed, ends_next, names_pushed, few_names, new_name}
 use Rattle.cg_files.proofs.lists.read_models.Goals as goal
 
 pub loop-place-init : goal.loop-place-init
@@ -38,19 +37,15 @@ push-requires-clause-fresh g c =
 
 pub loop-place-preserved : goal.loop-place-preserved
 loop-place-preserved g c =
-    let told = g.H.Shelf.told c.args.shelf.now in
-    let now = g.H.Shelf.told c.model_of.new.shelf in
     let next : StartModel = record { name = c.in_ok-name_of.field-0; chronology = c.in_ok-model.model } in
     let pushed = c.in_ok-push.ensures.ok in
-    let said = ap said_of_models pushed ∙ map-append (λ (one : StartModel). a_model one.chronology) c.loop-place.models (next ∷ []) in
-    let named = ap (λ models. map (λ (one : StartModel). one.name) models) pushed ∙ map-append (λ (one : StartModel). one.name) c.loop-place.models (next ∷ []) in
     record {
-      read = subst (λ s. AreRead told now (model_files (take (c.loop-place.place + 1) c.args.named.now)) s) (sym said)
-          (read_next Model (λ one. one.file) c.args.named.now c.loop-place.place c.index-named-place.result c.index-named-place.is c.loop-place-test.true _ _ _ _ _ c.file.ensures.file
-          c.loop-place.invariant.read (a_model c.in_ok-model.model) c.in_ok-model.ensures.read);
-      names = named
-          ∙ names_next c.args.named.now c.loop-place.place c.index-named-place.result c.index-named-place.is c.loop-place-test.true _ c.in_ok-name_of.field-0
-          (c.in_ok-name_of.ensures ∙ c.name.ensures.name) c.loop-place.invariant.names;
+      read =
+          read_pushed Model (λ one. one.file) c.args.named.now c.loop-place.place c.index-named-place.result c.index-named-place.is c.loop-place-test.true _ _ _ _ _ c.file.ensures.file
+          c.loop-place.invariant.read (λ (one : StartModel). a_model one.chronology) c.loop-place.models _ next refl pushed c.in_ok-model.ensures.read;
+      names =
+          names_pushed c.args.named.now c.loop-place.place c.index-named-place.result c.index-named-place.is c.loop-place-test.true (λ (one : StartModel). one.name) c.loop-place.models _ next
+          pushed (c.in_ok-name_of.ensures ∙ c.name.ensures.name) c.loop-place.invariant.names;
       later = omega (arith, c.loop-place.invariant.later, c.model_of.ensures.later);
     }
 

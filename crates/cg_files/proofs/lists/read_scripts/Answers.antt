@@ -1,5 +1,5 @@
 use Rattle.std.proofs.Common.{◌+◌, ◌∷◌, [], List, ℕ, Bor, length, map, take, get_or, refl, sym, ap, subst, ◌∙◌, arith, take_all, length-append}
-use Rattle.std.proofs.lemmas.List.{map-append, get_or_default}
+use Rattle.std.proofs.lemmas.List.{get_or_default}
 use Rattle.std.proofs.lemmas.Result.{err_from_is_err_and}
 use Rattle.cg_sharing.specs.Command.{Line}
 use Rattle.cg_files.specs.Said.{a_script}
@@ -7,7 +7,7 @@ use Rattle.cg_files.specs.Reading.{AreRead}
 use Rattle.cg_files.specs.Inputs.{session_files, said_of_scripts}
 use Rattle.cg_files.specs.declared.file.FileKind.TheVariants.{Session}
 use Rattle.cg_files.proofs.EndLemmas.{read_none}
-use Rattle.cg_files.proofs.ListLemmas.{read_next, ends_next}
+use Rattle.cg_files.proofs.ListLemmas.{read_pushed, ends_next}
 use Rattle.cg_files.proofs.lists.read_scripts.Goals as goal
 
 pub loop-place-init : goal.loop-place-init
@@ -28,13 +28,11 @@ returns-in_err-script_of-clause-fault g c =
 
 pub loop-place-preserved : goal.loop-place-preserved
 loop-place-preserved g c =
-    let told = g.H.Shelf.told c.args.shelf.now in
-    let now = g.H.Shelf.told c.script_of.new.shelf in
-    let said = ap said_of_scripts c.in_ok-push.ensures.items ∙ map-append (λ (lines : List Line). a_script lines) c.loop-place.scripts.items (c.in_ok-script_of.field-0 ∷ []) in
     record {
-      read = subst (λ s. AreRead told now (session_files (map (λ file. file.now) (take (c.loop-place.place + 1) c.args.files.now))) s) (sym said)
-          (read_next Session (λ (file : Bor (List ℕ)). file.now) c.args.files.now c.loop-place.place (get_or c.args.files.now c.loop-place.place _) (get_or_default c.args.files.now c.loop-place.place _ _ c.loop-place-test.true) c.loop-place-test.true _ _ _ _ _ refl
-          c.loop-place.invariant.read (a_script c.in_ok-script_of.field-0) c.in_ok-script_of.ensures.read);
+      read =
+          read_pushed Session (λ (file : Bor (List ℕ)). file.now) c.args.files.now c.loop-place.place (get_or c.args.files.now c.loop-place.place _) (get_or_default c.args.files.now c.loop-place.place _ _ c.loop-place-test.true) c.loop-place-test.true _ _ _ _ _ refl
+          c.loop-place.invariant.read (λ (lines : List Line). a_script lines) c.loop-place.scripts.items _ c.in_ok-script_of.field-0 refl c.in_ok-push.ensures.items
+          c.in_ok-script_of.ensures.read;
       count = let e = ap length c.in_ok-push.ensures.items in omega (arith, e, length-append c.loop-place.scripts.items (c.in_ok-script_of.field-0 ∷ []), c.loop-place.invariant.count);
       later = omega (arith, c.loop-place.invariant.later, c.script_of.ensures.later);
     }

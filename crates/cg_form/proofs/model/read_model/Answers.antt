@@ -1,7 +1,7 @@
 use Rattle.std.proofs.Common.{sym, subst, ◌∙◌, refl}
 use Rattle.std.proofs.lemmas.Result.{err_from_is_err_and}
-use Rattle.cg_form.specs.Model.{IsModel}
-use Rattle.cg_form.proofs.StepLemmas.{same-fault}
+use Rattle.cg_form.specs.Model.{IsModelFile}
+use Rattle.cg_text.proofs.StepLemmas.{same-fault}
 use Rattle.cg_form.proofs.ModelLemmas.{read-placed, read-ranged, read-model, not-read, not-ended, not-within}
 use Rattle.cg_form.proofs.model.read_model.Goals as goal
 
@@ -21,7 +21,7 @@ new-requires-clause-ranged c = read-ranged c.args.bytes.now _ _ c.in_ok-top.ensu
 
 pub returns-in-Ok-clause-ok : goal.returns-in-Ok-clause-ok
 returns-in-Ok-clause-ok c =
-    subst (λ m. IsModel c.args.bytes.now m) (sym c.in-Ok.ensures.ok)
+    subst (λ m. IsModelFile c.args.bytes.now m) (sym c.in-Ok.ensures.ok)
     (read-model c.args.bytes.now _ _ c.in_ok-top.ensures.ok (sym c.is_end.ensures ∙ c.if-not-is_end.false) (c.in-Ok.ensures.within.0 refl))
 
 pub returns-in-Err-clause-form : goal.returns-in-Err-clause-form

@@ -6,7 +6,7 @@ use Rattle.cg_model.specs.Node.{trees_of}
 use Rattle.cg_model.proofs.NodeLemmas.{tree_of-Leaf, tree_of-Boundary}
 use Rattle.cg_model.specs.Group.{kind_in}
 use Rattle.cg_form.specs.Reading.{statement_at}
-use Rattle.cg_form.proofs.StepLemmas.{same-fault}
+use Rattle.cg_text.proofs.StepLemmas.{same-fault}
 use Rattle.cg_form.proofs.StatementLemmas.{leaf-short, boundary-short, head-short}
 use Rattle.cg_form.proofs.ReaderLemmas.{read-zero, read-leaf, read-boundary, read-headless, read-bodiless, read-endless, read-group, starts, reads-one, reads-none, reads-all}
 use Rattle.cg_form.proofs.statement.+statements.Goals as goal

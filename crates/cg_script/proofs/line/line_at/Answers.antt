@@ -1,5 +1,5 @@
 use Rattle.std.proofs.lemmas.Result.{err_from_is_err_and}
-use Rattle.cg_form.proofs.StepLemmas.{same-fault}
+use Rattle.cg_text.proofs.StepLemmas.{same-fault}
 use Rattle.cg_script.proofs.LineLemmas.{reads-line, reads-endless, reads-wordless}
 use Rattle.cg_script.proofs.line.line_at.Goals as goal
 

@@ -1,7 +1,7 @@
 use Rattle.std.proofs.Common.{◌≡◌, ◌-◌, ◌++◌, ◌∷◌, [], map, sym, ap, ◌∙◌, arith}
 use Rattle.std.proofs.lemmas.List.{map-append}
 use Rattle.std.proofs.lemmas.Result.{err_from_is_err_and}
-use Rattle.cg_form.proofs.StepLemmas.{same-fault}
+use Rattle.cg_text.proofs.StepLemmas.{same-fault}
 use Rattle.cg_script.specs.Command.{command_in}
 use Rattle.cg_script.proofs.ScriptLemmas.{reads-one, reads-none, reads-all, reads-more}
 use Rattle.cg_script.proofs.script.commands_at.Goals as goal

@@ -2,7 +2,7 @@ use Rattle.std.proofs.Common.{map, count_by, ap, ◌∙◌, arith}
 use Rattle.std.proofs.lemmas.Result.{err_from_is_err_and}
 use Rattle.cg_script.specs.Command.{command_in}
 use Rattle.cg_script.specs.Form.{is_print}
-use Rattle.cg_form.proofs.StepLemmas.{same-fault}
+use Rattle.cg_text.proofs.StepLemmas.{same-fault}
 use Rattle.cg_script.proofs.ScriptLemmas.{read-script, no-script, many-prints, read-bounded, count_by-meant}
 use Rattle.cg_script.proofs.script.read_script.Goals as goal
 

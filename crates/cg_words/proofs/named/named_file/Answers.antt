@@ -1,5 +1,6 @@
 use Rattle.std.proofs.Common.{sym, subst}
-use Rattle.cg_words.specs.Words.{IsName, IsFile}
+use Rattle.cg_text.specs.Names.{IsName}
+use Rattle.cg_words.specs.Words.{IsFile}
 use Rattle.cg_words.proofs.NamedLemmas.{found, not_found, refuted}
 use Rattle.cg_words.proofs.named.named_file.Goals as goal
 use Rattle.cg_words.proofs.named.named_file.Goals.{else-is_name-via-then-is_name+else-is_file, else-is_name-via-else-is_name}

@@ -1,5 +1,5 @@
 use Rattle.std.proofs.Common.{sym, ap, ◌∙◌, arith}
-use Rattle.cg_words.specs.Words.{IsSameName}
+use Rattle.cg_curve.specs.Curves.{IsSameName}
 use Rattle.cg_words.specs.Reading.{is_same_name, are_distinct}
 use Rattle.cg_words.proofs.FilesLemmas.{are-named, names-nothing, too-many, name-twice, distinct-are, Decides-is_same_name}
 use Rattle.cg_words.proofs.words.curves_in.Goals as goal

@@ -1,0 +1,4 @@
+pub mod StepLemmas
+pub mod PieceLemmas
+pub mod NumberLemmas
+pub mod NameLemmas

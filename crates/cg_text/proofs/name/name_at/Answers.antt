@@ -1,0 +1,8 @@
+use Rattle.std.proofs.Common.{◌∙◌, ap, take}
+use Rattle.cg_text.proofs.NameLemmas.{name-utf8}
+use Rattle.cg_text.proofs.name.name_at.Goals as goal
+
+pub returns-in-Err : goal.returns-in-Err
+returns-in-Err c =
+    absurd (c.in-Err.ensures.cases.0
+    (name-utf8 c.args.bytes.now c.split_at.result.0.now (c.split_at.ensures.front ∙ ap (λ n. take n c.args.bytes.now) c.name_len-len.ensures.value)))

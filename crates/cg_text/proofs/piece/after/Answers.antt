@@ -1,0 +1,7 @@
+use Rattle.std.proofs.lemmas.Slice.Eq.{strip_prefix_is}
+use Rattle.std.proofs.lemmas.Bool.Decides.{Decides-eqb}
+use Rattle.cg_text.proofs.PieceLemmas.{after-strip}
+use Rattle.cg_text.proofs.piece.after.Goals as goal
+
+pub returns : goal.returns
+returns c = after-strip c.args.word.now c.args.bytes.now c.strip_prefix.result (strip_prefix_is Decides-eqb c.args.bytes.now c.args.word.now c.strip_prefix.result c.strip_prefix.ensures.cases)
