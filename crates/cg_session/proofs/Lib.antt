@@ -4,3 +4,4 @@ pub mod CoverLemmas
 pub mod LineLemmas
 pub mod PortLemmas
 pub mod SessionLemmas
+pub mod StandingLemmas

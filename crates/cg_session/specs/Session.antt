@@ -1,15 +1,16 @@
 -- Where the code's session is in its course.
-use Rattle.std.specs.Prelude.{◌≡◌, ℕ, ◌-◌, ◌<◌, ◌≤◌, List, [], ◌++◌, length, take, slice_get, MatchBool, false, Some, vec_len, vec_capacity}
+use Rattle.std.specs.Prelude.{◌≡◌, ℕ, ◌-◌, ◌<◌, ◌≤◌, List, [], ◌++◌, length, take, slice_get, Bool, MatchBool, false, Some, vec_len, vec_capacity}
+use Rattle.cg_meaning.specs.Curve.{Curve}
 use Rattle.cg_sharing.specs.Command.{Line}
 use Rattle.cg_sharing.specs.Versions.{StartModel, start_of}
 use Rattle.cg_sharing.specs.Journal.{Act, Answer, Entry, IsLegal}
-use Rattle.cg_sharing.specs.Course.{Marginals, Place, act_of, AreOthers, IsRunning, IsEnded, IsStopped, Reaches, AreFit}
+use Rattle.cg_sharing.specs.Course.{Place, act_of, AreOthers, IsRunning, IsEnded, IsStopped, Reaches, AreFit}
 use Rattle.cg_book.specs.Plain.{Seen, state_of, asked}
 use Rattle.cg_session.specs.declared.session.Session.{Session}
 use Rattle.cg_session.specs.declared.session.Progress.{Progress}
 use Rattle.cg_session.specs.declared.session.Progress.TheVariants.{Moved, Ended, Stopped}
 use Rattle.cg_session.specs.declared.session.Asked.{Asked}
-use Rattle.cg_session.specs.Standing.{place_in, HasText, IsSpare}
+use Rattle.cg_session.specs.Standing.{Shows, HasText, IsSpare}
 use Rattle.cg_session.specs.Port.{Grows}
 use Rattle.cg_session.specs.Transcript.{HasRoom}
 
@@ -24,16 +25,25 @@ script_of session = session.script
 abbrev pub left_of : Session → ℕ
 left_of session = length session.script - session.done
 
--- where it stands
-abbrev pub standing_of : Session → Place
-standing_of session = record (place_in session.standing) { stopped = session.stopped }
+-- want of memory has stopped it
+abbrev pub is_stopped : Session → Bool
+is_stopped session = session.stopped
 
--- its script has run to where it stands, or want of memory stopped it there
-abbrev pub Stands : Marginals → Seen → Session → Type 0
-Stands marginals seen session =
-    MatchBool session.stopped
-    (IsStopped marginals session.number seen.start session.script seen.journal (standing_of session))
-    (Reaches marginals session.number seen.start (take session.done session.script) seen.journal (place_in session.standing))
+-- The session shows the place: its standing does, and it is told whether it is stopped.
+pub record IsIn (session : Session) (place : Place) : Type 0 where
+  pub shows : Shows session.standing place
+  pub stopped : session.stopped ≡ place.stopped
+
+-- it is in a place to which its script has run, or where want of memory stopped it
+abbrev pub StandsAt : Curve → Seen → Session → Place → Type 0
+StandsAt curve seen session place =
+    IsIn session place
+    × MatchBool session.stopped
+    (IsStopped curve session.number seen.start session.script seen.journal place)
+    (Reaches curve session.number seen.start (take session.done session.script) seen.journal place)
+
+abbrev pub Stands : Curve → Seen → Session → Type 0
+Stands curve seen session = (place : Place) × StandsAt curve seen session place
 
 -- What a seat has seen that has made no entry yet: a legal journal, over the versions of models.
 pub record IsFresh (seat : ℕ) (seen : Seen) : Type 0 where
@@ -44,13 +54,13 @@ pub record IsFresh (seat : ℕ) (seen : Seen) : Type 0 where
 
 -- The session is at a state of the course of its script, by what its seat has seen: a legal journal, over the versions
 -- of models.
-pub record IsAt (marginals : Marginals) (seen : Seen) (session : Session) : Type 0 where
+pub record IsAt (curve : Curve) (seen : Seen) (session : Session) : Type 0 where
   pub models : List StartModel
   pub start : seen.start ≡ start_of models
   pub legal : IsLegal seen.start seen.journal
   pub ready : AreFit session.script
   pub within : session.done ≤ length session.script
-  pub stands : Stands marginals seen session
+  pub stands : Stands curve seen session
   pub text : HasText (state_of seen) session.standing.version
 
 -- the same session, as far as its number, its script and whether it is stopped go, at the same version
@@ -64,7 +74,7 @@ pub record IsSame (old new : Session) : Type 0 where
 pub record IsPrepared (next : Asked) (session : Session) : Type 0 where
   pub line : Line
   pub here : slice_get session.script session.done ≡ Some line
-  pub act : act_of (place_in session.standing) line.command ≡ Some (asked next.event)
+  pub act : (place : Place) → Shows session.standing place → act_of place line.command ≡ Some (asked next.event)
   pub spare : IsSpare line.command next.spare
   pub room : HasRoom session.standing.transcript 64
   pub base : vec_len session.standing.bases < vec_capacity session.standing.bases
@@ -79,22 +89,26 @@ pub record Makes (alone : Type 0) (old new : Seen) (before after : Session) : Ty
   pub fewer : left_of after < left_of before
 
 -- No entry of the seat came, and all of the script is done.
-pub record Ends (marginals : Marginals) (old new : Seen) (after : Session) : Type 0 where
+pub record Ends (curve : Curve) (old new : Seen) (after : Session) : Type 0 where
   pub same : new ≡ old
-  pub running : IsRunning marginals after.number new.start after.script new.journal (standing_of after)
-  pub ended : IsEnded (standing_of after)
+  pub place : Place
+  pub here : IsIn after place
+  pub running : IsRunning curve after.number new.start after.script new.journal place
+  pub ended : IsEnded place
 
 -- No entry of the seat came, and want of memory has stopped the session.
-pub record Stops (marginals : Marginals) (alone : Type 0) (old new : Seen) (before after : Session) : Type 0 where
+pub record Stops (curve : Curve) (alone : Type 0) (old new : Seen) (before after : Session) : Type 0 where
   pub others : List Entry
   pub theirs : AreOthers before.number others
   pub none : alone → others ≡ []
   pub start : new.start ≡ old.start
   pub journal : new.journal ≡ old.journal ++ others
-  pub stopped : IsStopped marginals after.number new.start after.script new.journal (standing_of after)
+  pub place : Place
+  pub here : IsIn after place
+  pub stopped : IsStopped curve after.number new.start after.script new.journal place
 
 -- what a call of `advance` did
-abbrev pub Came : Marginals → Progress → Type 0 → Seen → Seen → Session → Session → Type 0
-Came marginals Moved alone old new before after = Makes alone old new before after
-Came marginals Ended alone old new before after = Ends marginals old new after
-Came marginals Stopped alone old new before after = Stops marginals alone old new before after
+abbrev pub Came : Curve → Progress → Type 0 → Seen → Seen → Session → Session → Type 0
+Came curve Moved alone old new before after = Makes alone old new before after
+Came curve Ended alone old new before after = Ends curve old new after
+Came curve Stopped alone old new before after = Stops curve alone old new before after

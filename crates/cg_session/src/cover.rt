@@ -3,8 +3,7 @@ ghost use Rattle.std.specs.Prelude.{◌≡◌, ◌≤◌, length, option_map, So
 ghost use Rattle.cg_meaning.specs.Tree.{datings_of, root_of};
 ghost use Rattle.cg_meaning.specs.Cover.{first_fault};
 ghost use Rattle.cg_like.specs.Cover.{rows_of, fault_in};
-ghost use Rattle.cg_up.specs.Curve.{rows_at};
-ghost use Rattle.cg_session.specs.Standing.{curve_number, scene_in};
+ghost use Rattle.cg_session.specs.Standing.{curve_number, first_curve, scene_in};
 
 use cg_curve::{Curve, Curves};
 use cg_like::{LikeFault, covers};
@@ -19,12 +18,11 @@ pub(crate) fn curve_number(curves: &Curves) -> u8
 }
 
 fn first_curve(curves: &Curves) -> Option<&Curve>
-    ensures { rows_of (option_map (λ c. c.now) result) ≡ rows_at curves.now (curve_number curves.now) }
+    ensures { rows_of (option_map (λ c. c.now) result) ≡ first_curve curves.now }
 {
-    if curves.count() == 0 {
-        None
-    } else {
-        Some(curves.get(1))
+    match curve_number(curves) {
+        0 => None,
+        number => Some(curves.get(number)),
     }
 }
 

@@ -1,6 +1,8 @@
 ghost use Rattle.std.specs.Prelude.{◌≡◌, ◌<◌, ◌≤◌, ◌+◌, length, slice_get, Some, true, false, vec_len, vec_capacity, IfOk, OnErr, MatchOption};
 ghost use Rattle.cg_sharing.specs.Command as spec;
-ghost use Rattle.cg_sharing.specs.Course.{Marginals, answered, transcript_of, AreFit};
+ghost use Rattle.cg_meaning.specs.Curve.{Curve};
+ghost use Rattle.cg_sharing.specs.Course.{Place, answered, transcript_of, AreFit};
+ghost use Rattle.cg_recipe.specs.Recipe.{recipe};
 ghost use Rattle.cg_book.specs.Plain as book;
 ghost use Rattle.cg_book.specs.Plain.{Seen, state_of, Carries};
 
@@ -46,16 +48,16 @@ pub struct Session {
 }
 
 impl Session {
-    ghost use Rattle.cg_session.specs.Standing.{marginals_on, place_in, HasText, IsSpare};
+    ghost use Rattle.cg_session.specs.Standing.{first_curve, Shows, HasText, IsSpare};
     ghost use Rattle.cg_session.specs.Transcript.{HasRoom};
-    ghost use Rattle.cg_session.specs.Session.{seat_of, script_of, left_of, standing_of, IsFresh, IsAt, IsSame, IsPrepared, Came};
+    ghost use Rattle.cg_session.specs.Session.{seat_of, script_of, left_of, is_stopped, IsIn, IsFresh, IsAt, IsSame, IsPrepared, Came};
 
     /// A session before its first command.
     pub fn new(alloc: Global, number: u32, script: Script) -> Result<Session, NoMemory>
         requires { AreFit script }
-        ensures at { IfOk result (λ session. (marginals : Marginals) (seen : Seen) → IsFresh number seen → IsAt marginals seen session) }
+        ensures at { IfOk result (λ session. (curve : Curve) (seen : Seen) → IsFresh number seen → IsAt curve seen session) }
         ensures same { IfOk result (λ session. (seat_of session ≡ number) × (script_of session ≡ script)) }
-        ensures going { IfOk result (λ session. (standing_of session).stopped ≡ false) }
+        ensures going { IfOk result (λ session. is_stopped session ≡ false) }
     {
         let standing = Standing {
             transcript: Transcript::begin(alloc, number)?,
@@ -82,7 +84,7 @@ impl Session {
         requires ready { AreFit self.old.script }
         requires within { self.old.done ≤ length self.old.script }
         ensures same { IsSame self.old self.new }
-        ensures at { (seen : Seen) → self.old.stopped ≡ false → IsAt (marginals_on curves.now) seen self.old → IsAt (marginals_on curves.now) seen self.new }
+        ensures at { (seen : Seen) → self.old.stopped ≡ false → IsAt (first_curve curves.now) seen self.old → IsAt (first_curve curves.now) seen self.new }
         ensures forward { self.old.done ≤ self.new.done }
         ensures unfinished { OnErr result (self.new.done < length self.new.script) }
         ensures next { IfOk result (λ asked. MatchOption asked (self.new.done ≡ length self.new.script) (λ next. IsPrepared next self.new)) }
@@ -109,10 +111,11 @@ impl Session {
         ensures same { (self.new.number ≡ self.old.number) × (self.new.script ≡ self.old.script) }
         ensures text { (seen : Seen) → HasText (state_of seen) self.old.standing.version → Carries seen reply → HasText (state_of seen) self.new.standing.version }
         ensures came { MatchOption (book.answered reply)
-            ((result ≡ Progress.Stopped) × (self.new.stopped ≡ true) × (self.new.done ≡ self.old.done) × (place_in self.new.standing ≡ place_in self.old.standing))
+            ((result ≡ Progress.Stopped) × (self.new.stopped ≡ true) × (self.new.done ≡ self.old.done)
+            × ((place : Place) → Shows self.old.standing place → Shows self.new.standing place))
             (λ a. (result ≡ Progress.Moved) × (self.new.stopped ≡ self.old.stopped) × (self.new.done ≡ self.old.done + 1)
             × ((line : spec.Line) → slice_get self.old.script self.old.done ≡ Some line → IsSpare line.command spare
-            → place_in self.new.standing ≡ answered line a (place_in self.old.standing))) }
+            → (place : Place) → Shows self.old.standing place → Shows self.new.standing (answered line a place))) }
     {
         let (line, _) = self.script.get(self.done);
         if self.standing.answer(line, spare, reply) {
@@ -136,15 +139,15 @@ impl Session {
         steps: &mut Steps<L>,
     ) -> Progress
         requires seat { Q.seat port.old ≡ seat_of self.old }
-        requires at { IsAt (marginals_on curves.now) (Q.seen port.old) self.old }
+        requires at { IsAt (first_curve curves.now) (Q.seen port.old) self.old }
         ensures same { (seat_of self.new ≡ seat_of self.old) × (script_of self.new ≡ script_of self.old) }
         ensures lent { Q.lent port.new ≡ Q.lent port.old }
         ensures seat { Q.seat port.new ≡ Q.seat port.old }
         ensures alone { Q.alone port.old → Q.alone port.new }
         ensures start { (Q.seen port.new).start ≡ (Q.seen port.old).start }
-        ensures at { IsAt (marginals_on curves.now) (Q.seen port.new) self.new }
-        ensures came { Came (marginals_on curves.now) result (Q.alone port.old) (Q.seen port.old) (Q.seen port.new) self.old self.new }
-        ensures repeats { (standing_of self.old).stopped ≡ true → result ≡ Progress.Stopped }
+        ensures at { IsAt (first_curve curves.now) (Q.seen port.new) self.new }
+        ensures came { Came (first_curve curves.now) result (Q.alone port.old) (Q.seen port.old) (Q.seen port.new) self.old self.new }
+        ensures repeats { is_stopped self.old ≡ true → result ≡ Progress.Stopped }
     {
         if self.stopped {
             return Progress::Stopped;
@@ -164,7 +167,7 @@ impl Session {
 
     /// The transcript, with its last line. It is whole after `Ended` and `Stopped`. Takes no memory.
     pub fn into_transcript(self) -> Vec<u8>
-        ensures { result.items ≡ transcript_of (seat_of self) (standing_of self) }
+        ensures { (place : Place) → IsIn self place → result.items ≡ transcript_of recipe (seat_of self) place }
     {
         let Session {
             number,

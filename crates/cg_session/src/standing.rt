@@ -1,7 +1,7 @@
 ghost use Rattle.std.specs.Prelude.{◌≡◌, ◌≢◌, ◌<◌, List, [], map, option_map, position, is_some, bytes_eq, vec_len, vec_capacity, IfOk, OnOk, OnErr, MatchOption};
 ghost use Rattle.cg_sharing.specs.Command as spec;
 ghost use Rattle.cg_sharing.specs.Versions.{State, head_of};
-ghost use Rattle.cg_sharing.specs.Course.{act_of, with_grid, grid_of, done_at, with_base, bases_after, answered, IsFit};
+ghost use Rattle.cg_sharing.specs.Course.{Place, act_of, with_grid, grid_of, done_at, with_base, bases_after, answered, IsFit};
 ghost use Rattle.cg_script.specs.Command.{command_in};
 ghost use Rattle.cg_book.specs.Plain as book;
 ghost use Rattle.cg_session.specs.Standing.{base_in, IsSpare};
@@ -95,12 +95,12 @@ pub(crate) fn spare_of(alloc: Global, command: &Command) -> Result<Option<Name>,
 }
 
 impl Standing {
-    ghost use Rattle.cg_session.specs.Standing.{marginals_on, number_of, place_in, HasText};
+    ghost use Rattle.cg_session.specs.Standing.{first_curve, Shows, HasText};
     ghost use Rattle.cg_session.specs.Transcript.{HasRoom};
 
     /// The event of a command, if it makes one here.
     pub fn event(&self, alloc: Global, command: &Command) -> Result<Option<Event>, NoMemory>
-        ensures { IfOk result (λ event. option_map asked event ≡ act_of (place_in self.now) (command_in command.now)) }
+        ensures { IfOk result (λ event. (place : Place) → Shows self.now place → option_map asked event ≡ act_of place (command_in command.now)) }
     {
         match command {
             Command::Grid(_, _) => Ok(None),
@@ -127,8 +127,10 @@ impl Standing {
 
     /// Makes room for an answer. All else stays.
     pub fn make_room(&mut self) -> Result<(), NoMemory>
-        ensures place { place_in self.new ≡ place_in self.old }
+        ensures text { self.new.transcript.bytes.items ≡ self.old.transcript.bytes.items }
         ensures version { self.new.version ≡ self.old.version }
+        ensures grid { self.new.grid ≡ self.old.grid }
+        ensures bases { self.new.bases.items ≡ self.old.bases.items }
         ensures line { OnOk result (HasRoom self.new.transcript 64) }
         ensures base { OnOk result (vec_len self.new.bases < vec_capacity self.new.bases) }
     {
@@ -147,9 +149,9 @@ impl Standing {
         steps: &mut Steps<L>,
     ) -> Result<(), NoMemory>
         requires ready { IsFit (command_in command.now) }
-        ensures ok { OnOk result ((state : State) → HasText state self.old.version
-            → place_in self.new ≡ done_at (marginals_on curves.now) state line (command_in command.now) (place_in self.old)) }
-        ensures err { OnErr result (place_in self.new ≡ place_in self.old) }
+        ensures ok { OnOk result ((state : State) (place : Place) → HasText state self.old.version → Shows self.old place
+            → Shows self.new (done_at (first_curve curves.now) state line (command_in command.now) place)) }
+        ensures err { OnErr result ((place : Place) → Shows self.old place → Shows self.new place) }
         ensures version { self.new.version ≡ self.old.version }
     {
         self.transcript.make_room()?;
@@ -171,8 +173,8 @@ impl Standing {
         younger: Year,
     ) -> Result<(), NoMemory>
         requires { HasRoom self.old.transcript 64 }
-        ensures ok { OnOk result (place_in self.new ≡ with_grid line (grid_of older younger) (place_in self.old)) }
-        ensures err { OnErr result (place_in self.new ≡ place_in self.old) }
+        ensures ok { OnOk result ((place : Place) → Shows self.old place → Shows self.new (with_grid line (grid_of older younger) place)) }
+        ensures err { OnErr result ((place : Place) → Shows self.old place → Shows self.new place) }
         ensures version { self.new.version ≡ self.old.version }
     {
         match Grid::new(older, younger) {
@@ -196,9 +198,9 @@ impl Standing {
     ) -> Result<(), NoMemory>
         requires room { HasRoom self.old.transcript 64 }
         requires named { name.now ≢ [] }
-        ensures ok { OnOk result ((state : State) → HasText state self.old.version
-            → place_in self.new ≡ done_at (marginals_on curves.now) state line (spec.Print name.now) (place_in self.old)) }
-        ensures err { OnErr result (place_in self.new ≡ place_in self.old) }
+        ensures ok { OnOk result ((state : State) (place : Place) → HasText state self.old.version → Shows self.old place
+            → Shows self.new (done_at (first_curve curves.now) state line (spec.Print name.now) place)) }
+        ensures err { OnErr result ((place : Place) → Shows self.old place → Shows self.new place) }
         ensures version { self.new.version ≡ self.old.version }
     {
         let Some(version) = &self.version else {
@@ -228,8 +230,8 @@ impl Standing {
         requires line { HasRoom self.old.transcript 64 }
         requires base { vec_len self.old.bases < vec_capacity self.old.bases }
         ensures came { result ≡ is_some (book.answered reply) }
-        ensures place { MatchOption (book.answered reply) (place_in self.new ≡ place_in self.old) (λ a. (command : spec.Command) → IsSpare command spare
-            → place_in self.new ≡ answered (record { number = line; command = command }) a (place_in self.old)) }
+        ensures place { (place : Place) → Shows self.old place → MatchOption (book.answered reply) (Shows self.new place)
+            (λ a. (command : spec.Command) → IsSpare command spare → Shows self.new (answered (record { number = line; command = command }) a place)) }
         ensures version { (seen : Seen) → HasText (state_of seen) self.old.version → Carries seen reply → HasText (state_of seen) self.new.version }
     {
         match reply {

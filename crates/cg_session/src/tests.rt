@@ -1,5 +1,5 @@
 ghost use Rattle.std.specs.Prelude.{◌≡◌, ◌<◌, IfOk};
-ghost use Rattle.cg_sharing.specs.Course.{Marginals};
+ghost use Rattle.cg_meaning.specs.Curve.{Curve};
 ghost use Rattle.cg_book.specs.Plain.{Seen};
 ghost use Rattle.cg_session.specs.Session.{seat_of, IsFresh, IsAt};
 
@@ -42,7 +42,7 @@ fn curves(alloc: Global, is_given: bool) -> Result<Curves, Fail> {
 
 /// A session of this script.
 fn session(alloc: Global, script: &str) -> Result<Session, Fail>
-    ensures at { IfOk result (λ session. (marginals : Marginals) (seen : Seen) → IsFresh 1 seen → IsAt marginals seen session) }
+    ensures at { IfOk result (λ session. (curve : Curve) (seen : Seen) → IsFresh 1 seen → IsAt curve seen session) }
     ensures seat { IfOk result (λ session. seat_of session ≡ 1) }
 {
     let script = read_script(alloc, script.as_bytes())?;
@@ -64,7 +64,7 @@ fn written<L: Ledger>(
     blank: Blank,
 ) -> Result<Vec<u8>, Fail>
     requires fresh { IsFresh 1 book.old }
-    requires at { (marginals : Marginals) (seen : Seen) → IsFresh 1 seen → IsAt marginals seen session }
+    requires at { (curve : Curve) (seen : Seen) → IsFresh 1 seen → IsAt curve seen session }
     requires seat { seat_of session ≡ 1 }
     requires name { blank.name ≡ L.name }
     requires parts { blank.parts ≡ L.parts }

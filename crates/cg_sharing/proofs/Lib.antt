@@ -1,6 +1,7 @@
 pub mod EditCases
 pub mod EditLemmas
 pub mod JournalLemmas
+pub mod PieceLemmas
 pub mod CourseLemmas
 pub mod ReachLemmas
 pub mod InterleavingLemmas

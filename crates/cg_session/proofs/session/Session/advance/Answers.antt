@@ -1,8 +1,9 @@
 use Rattle.std.proofs.Common.{◌≡◌, ◌∙◌, [], length, true, refl, sym, subst, append-nil, ℕ}
 use Rattle.std.proofs.lemmas.Option.{slice_get_within}
+use Rattle.cg_sharing.specs.Course.{stopped_at}
 use Rattle.cg_book.specs.Plain.{asked, answered}
 use Rattle.cg_session.specs.Port.{Grows}
-use Rattle.cg_session.specs.Standing.{marginals_on}
+use Rattle.cg_session.specs.Standing.{first_curve}
 use Rattle.cg_session.specs.Session.{IsPrepared}
 use Rattle.cg_session.proofs.AdvanceLemmas.{may_at, stopped_on, stands_stopped, ended_at, settled_at}
 use Rattle.cg_session.proofs.session.Session.advance.Goals as goal
@@ -12,7 +13,7 @@ event-reply-requires-clause-may g c =
     let seen = g.Q.Port.seen c.args.port.now in
     let s = c.prepare.new.self in
     let next : IsPrepared c.in-Ok-Some.field-0-0 s = rw c.in-Ok-Some.field-0-is at c.in-Ok-Some.ensures.next in
-    may_at (marginals_on c.args.curves.now) seen s next.line (asked c.in-Ok-Some.field-0-0.event) (c.prepare.ensures.same.stopped ∙ c.if-self.false) (c.prepare.ensures.at seen c.if-self.false c.requires.at) next.here next.act
+    may_at (first_curve c.args.curves.now) seen s next.line (asked c.in-Ok-Some.field-0-0.event) (c.prepare.ensures.same.stopped ∙ c.if-self.false) (c.prepare.ensures.at seen c.if-self.false c.requires.at) next.here next.act
 
 pub settle-requires-clause-within : goal.settle-requires-clause-within
 settle-requires-clause-within g c =
@@ -29,7 +30,7 @@ returns-in-Ok-Some-clause-at g c =
     let act = asked c.in-Ok-Some.field-0-0.event in
     let G : ℕ → Type 0 = λ n. Grows n (g.Q.Port.alone c.args.port.now) act (answered c.event-reply.result) seen new in
     let grows = subst G (c.requires.seat ∙ sym same.number) c.event-reply.ensures.grows in
-    (settled_at (marginals_on c.args.curves.now) seen new (g.Q.Port.alone c.args.port.now) c.args.self.now s c.settle.new.self next.line act c.in-Ok-Some.field-0-0.spare c.settle.result (answered c.event-reply.result) (same.stopped ∙ c.if-self.false)
+    (settled_at (first_curve c.args.curves.now) seen new (g.Q.Port.alone c.args.port.now) c.args.self.now s c.settle.new.self next.line act c.in-Ok-Some.field-0-0.spare c.settle.result (answered c.event-reply.result) (same.stopped ∙ c.if-self.false)
     (c.prepare.ensures.at seen c.if-self.false c.requires.at) same.number same.script c.prepare.ensures.forward next.here next.act next.spare grows c.event-reply.ensures.legal c.settle.ensures.same.0 c.settle.ensures.same.1
     (λ text. c.settle.ensures.text new text c.event-reply.ensures.carries) c.settle.ensures.came).0
 
@@ -43,7 +44,7 @@ returns-in-Ok-Some-clause-came g c =
     let act = asked c.in-Ok-Some.field-0-0.event in
     let G : ℕ → Type 0 = λ n. Grows n (g.Q.Port.alone c.args.port.now) act (answered c.event-reply.result) seen new in
     let grows = subst G (c.requires.seat ∙ sym same.number) c.event-reply.ensures.grows in
-    (settled_at (marginals_on c.args.curves.now) seen new (g.Q.Port.alone c.args.port.now) c.args.self.now s c.settle.new.self next.line act c.in-Ok-Some.field-0-0.spare c.settle.result (answered c.event-reply.result) (same.stopped ∙ c.if-self.false)
+    (settled_at (first_curve c.args.curves.now) seen new (g.Q.Port.alone c.args.port.now) c.args.self.now s c.settle.new.self next.line act c.in-Ok-Some.field-0-0.spare c.settle.result (answered c.event-reply.result) (same.stopped ∙ c.if-self.false)
     (c.prepare.ensures.at seen c.if-self.false c.requires.at) same.number same.script c.prepare.ensures.forward next.here next.act next.spare grows c.event-reply.ensures.legal c.settle.ensures.same.0 c.settle.ensures.same.1
     (λ text. c.settle.ensures.text new text c.event-reply.ensures.carries) c.settle.ensures.came).1
 
@@ -52,37 +53,59 @@ returns-in-Ok-None-clause-came g c =
     let seen = g.Q.Port.seen c.args.port.now in
     let s = c.prepare.new.self in
     let all : s.done ≡ length s.script = rw c.in-Ok-None.field-0-is at c.in-Ok-None.ensures.next in
-    let end = ended_at (marginals_on c.args.curves.now) seen s (c.prepare.ensures.same.stopped ∙ c.if-self.false) (c.prepare.ensures.at seen c.if-self.false c.requires.at) all in
-    record { same = refl; running = end.0; ended = end.1 }
+    ended_at (first_curve c.args.curves.now) seen s (c.prepare.ensures.same.stopped ∙ c.if-self.false) (c.prepare.ensures.at seen c.if-self.false c.requires.at) all
 
 pub returns-in-Err-clause-at : goal.returns-in-Err-clause-at
 returns-in-Err-clause-at g c =
+    let curve = first_curve c.args.curves.now in
     let seen = g.Q.Port.seen c.args.port.now in
     let s = c.prepare.new.self in
     let run = c.prepare.ensures.same.stopped ∙ c.if-self.false in
     let at = c.prepare.ensures.at seen c.if-self.false c.requires.at in
+    let place = at.stands.0 in
     record {
       models = at.models;
       start = at.start;
       legal = at.legal;
       ready = at.ready;
       within = at.within;
-      stands = stopped_on (marginals_on c.args.curves.now) seen seen s (record s { stopped = true }) [] run at c.in-Err.ensures.unfinished tt refl (sym (append-nil seen.journal)) refl refl refl refl refl;
+      stands = (stopped_at place, stopped_on curve seen seen s (record s { stopped = true }) [] place run c.in-Err.ensures.unfinished tt refl (sym (append-nil seen.journal)) refl refl refl refl at.stands.1.0.shows at.stands.1);
       text = at.text;
     }
 
 pub returns-in-Err-clause-came : goal.returns-in-Err-clause-came
 returns-in-Err-clause-came g c =
+    let curve = first_curve c.args.curves.now in
     let seen = g.Q.Port.seen c.args.port.now in
     let s = c.prepare.new.self in
     let run = c.prepare.ensures.same.stopped ∙ c.if-self.false in
     let at = c.prepare.ensures.at seen c.if-self.false c.requires.at in
-    let stands = stopped_on (marginals_on c.args.curves.now) seen seen s (record s { stopped = true }) [] run at c.in-Err.ensures.unfinished tt refl (sym (append-nil seen.journal)) refl refl refl refl refl in
+    let place = at.stands.0 in
+    let stands = stopped_on curve seen seen s (record s { stopped = true }) [] place run c.in-Err.ensures.unfinished tt refl (sym (append-nil seen.journal)) refl refl refl refl at.stands.1.0.shows at.stands.1 in
     record {
       others = [];
       theirs = tt;
       none = λ _. refl;
       start = refl;
       journal = sym (append-nil seen.journal);
-      stopped = stands_stopped (marginals_on c.args.curves.now) seen (record s { stopped = true }) refl stands;
+      place = stopped_at place;
+      here = stands.0;
+      stopped = stands_stopped curve seen (record s { stopped = true }) (stopped_at place) refl stands;
+    }
+
+pub returns-then-self-clause-came : goal.returns-then-self-clause-came
+returns-then-self-clause-came g c =
+    let curve = first_curve c.args.curves.now in
+    let seen = g.Q.Port.seen c.args.port.now in
+    let place = c.requires.at.stands.0 in
+    let stands = c.requires.at.stands.1 in
+    record {
+      others = [];
+      theirs = tt;
+      none = λ _. refl;
+      start = refl;
+      journal = sym (append-nil seen.journal);
+      place = place;
+      here = stands.0;
+      stopped = stands_stopped curve seen c.args.self.now place c.if-self.true stands;
     }

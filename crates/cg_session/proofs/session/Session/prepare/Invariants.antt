@@ -1,6 +1,6 @@
 use Rattle.std.proofs.Common.{◌≡◌, ◌≤◌, ◌-◌, false, length}
 use Rattle.cg_book.specs.Plain.{Seen}
-use Rattle.cg_session.specs.Standing.{marginals_on}
+use Rattle.cg_session.specs.Standing.{first_curve}
 use Rattle.cg_session.specs.Session.{IsAt, IsSame}
 use Rattle.cg_session.proofs.session.Session.prepare.Given as goal
 
@@ -10,7 +10,7 @@ invariant-loop-self g l = record {
   same : IsSame l.initial.self l.self;
   within : l.self.done ≤ length l.self.script;
   forward : l.initial.self.done ≤ l.self.done;
-  at : (seen : Seen) → l.initial.self.stopped ≡ false → IsAt (marginals_on l.curves) seen l.initial.self → IsAt (marginals_on l.curves) seen l.self;
+  at : (seen : Seen) → l.initial.self.stopped ≡ false → IsAt (first_curve l.curves) seen l.initial.self → IsAt (first_curve l.curves) seen l.self;
 }
 
 abbrev pub decreases-loop-self : goal.decreases-loop-self
