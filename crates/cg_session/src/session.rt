@@ -147,7 +147,7 @@ impl Session {
         ensures start { (Q.seen port.new).start ≡ (Q.seen port.old).start }
         ensures at { IsAt (first_curve curves.now) (Q.seen port.new) self.new }
         ensures came { Came (first_curve curves.now) result (Q.alone port.old) (Q.seen port.old) (Q.seen port.new) self.old self.new }
-        ensures repeats { is_stopped self.old ≡ true → result ≡ Progress.Stopped }
+        ensures repeats { is_stopped self.old ≡ true → (result ≡ Progress.Stopped) × (self.new ≡ self.old) }
     {
         if self.stopped {
             return Progress::Stopped;
