@@ -155,7 +155,7 @@ impl Session {
         ensures ticks { (place : Place) → StandsAt (first_curve curves.now) (Q.seen port.old) self.old place
             → Counts (first_curve curves.now) (Q.seen port.new) result steps.old steps.new place self.new }
         ensures idle { is_stopped self.old ≡ true → steps.new ≡ steps.old }
-        ensures repeats { is_stopped self.old ≡ true → result ≡ Progress.Stopped }
+        ensures repeats { is_stopped self.old ≡ true → (result ≡ Progress.Stopped) × (self.new ≡ self.old) }
     {
         if self.stopped {
             return Progress::Stopped;
