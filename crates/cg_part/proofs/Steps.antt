@@ -7,20 +7,21 @@ use Rattle.cg_meaning.specs.Tree.{Tree, Trees, Leaf, Boundary, Group, none, more
 use Rattle.cg_meaning.specs.Scene.{Scene, admits}
 use Rattle.cg_meaning.specs.Weights.{Weighting}
 use Rattle.cg_meaning.specs.Sums.{product_from}
-use Rattle.cg_meaning.specs.Pairs.{first, span_weight}
+use Rattle.cg_meaning.specs.Pairs.{span_weight}
+use Rattle.cg_part.proofs.CellPairs.{first}
 use Rattle.cg_meaning.proofs.Counts.{length-datings_of}
-use Rattle.cg_part.specs.Part.{own_weight, reaches}
+use Rattle.cg_part.specs.Part.{reaches}
 use Rattle.cg_part.specs.Spans.{has_boundary, open_events}
 use Rattle.cg_part.specs.Tables.{Table, sum_from, cumulated, identity, row_table, row_of, then_table, then_row, in_order, behind, span_item}
 use Rattle.cg_part.proofs.Ranges.{sum_from-same, sum_from-identity}
 use Rattle.cg_part.proofs.Blocks.{and_true}
 use Rattle.cg_part.proofs.Parts.{starts, up_to, up_to-same}
 use Rattle.cg_part.proofs.Members.{length-paths_of, lead, part_leaf, has_parts, then_row_is, then_member}
-use Rattle.cg_part.proofs.Splits.{beside_weight, ordered_weight, closing, segment_weight, is_boundary, ordered-split, segment-split, last-weight}
+use Rattle.cg_part.proofs.Splits.{node_weight, beside_weight, ordered_weight, closing, segment_weight, is_boundary, ordered-split, segment-split, last-weight}
 
 -- the datings of a tree's own events
 abbrev pub own : Scene → Weighting → ℕ → Tree → ℕ → ℕ → ℕ
-own scene w n t a b = up_to scene (λ cells. own_weight scene w n t cells) (paths_of t) (datings_of t) a b
+own scene w n t a b = up_to scene (λ cells. node_weight scene w n t cells) (paths_of t) (datings_of t) a b
 
 -- those of members of a Phase, from place k on
 abbrev pub beside_parts : Scene → Weighting → ℕ → ℕ → Trees → ℕ → ℕ → ℕ
@@ -52,10 +53,10 @@ pub ordered_member : (scene : Scene) (w : Weighting) (s table : Table) (t : Tree
     ≡ sum_from a b (λ c. s a c * ordered_parts scene w n None k (more t ts) c b)
 ordered_member scene w s table t ts k n a b member within same =
     then_member scene k a b s table (paths_of t) (paths_of_all Sequence (k + 1) ts) (datings_of t) (datings_of_all ts)
-    (λ c cells. ordered_weight scene w n None (more t ts) cells) (λ cells. own_weight scene w n t cells)
+    (λ c cells. ordered_weight scene w n None (more t ts) cells) (λ cells. node_weight scene w n t cells)
     (λ c cells. ordered_weight scene w (n + count t) None ts cells)
     (paired t) (lead Sequence k (k + 1) ts (omega arith)) within
-    (has_parts scene table (λ cells. own_weight scene w n t cells) (paths_of t) (datings_of t) b same)
+    (has_parts scene table (λ cells. node_weight scene w n t cells) (paths_of t) (datings_of t) b same)
     (λ c xs ys l m starts. ordered-split scene w n t ts xs ys member (l ∙ length-paths_of t))
 
 -- a member of a segment, onto the earlier ones
@@ -66,10 +67,10 @@ pub segment_member : (scene : Scene) (w : Weighting) (s table : Table) (t : Tree
     ≡ sum_from c b (λ e. s c e * segment_parts scene w n opened c k (more t ts) e b)
 segment_member scene w s table t ts k n opened c b member within same =
     then_member scene k c b s table (paths_of t) (paths_of_all Sequence (k + 1) ts) (datings_of t) (datings_of_all ts)
-    (λ e cells. segment_weight scene w n opened c (more t ts) cells) (λ cells. own_weight scene w n t cells)
+    (λ e cells. segment_weight scene w n opened c (more t ts) cells) (λ cells. node_weight scene w n t cells)
     (λ e cells. segment_weight scene w (n + count t) (opened + open_events t) c ts cells)
     (paired t) (lead Sequence k (k + 1) ts (omega arith)) within
-    (has_parts scene table (λ cells. own_weight scene w n t cells) (paths_of t) (datings_of t) b same)
+    (has_parts scene table (λ cells. node_weight scene w n t cells) (paths_of t) (datings_of t) b same)
     (λ e xs ys l m starts. segment-split scene w n opened c t ts xs ys member (l ∙ length-paths_of t))
 
 -- the table of one event
@@ -83,7 +84,7 @@ event_table scene row weight d a b within same =
 pub leaf_table : (scene : Scene) (w : Weighting) (name : Name) (d : Dating) (n a b : ℕ) → b < scene.grid.cells →
     cumulated (row_table (row_of scene w n d)) a b ≡ own scene w n (Leaf name d) a b
 leaf_table scene w name d n a b within =
-    event_table scene (row_of scene w n d) (λ cells. own_weight scene w n (Leaf name d) cells) d a b within
+    event_table scene (row_of scene w n d) (λ cells. node_weight scene w n (Leaf name d) cells) d a b within
     (λ c. ap (λ x. cond (admits scene.grid d c) x 0) (omega arith))
 
 -- an event of a Sequence onto the earlier members

@@ -3,8 +3,7 @@ use Rattle.std.proofs.Common.{◌≡◌, ℕ, refl, List, [], ◌∷◌, map, po
 use Rattle.std.specs.List.{range_with_len}
 use Rattle.cg_meaning.specs.Tree.{Tree, Leaf, Boundary, Group, Trees, none, more, Kind, Sequence, Phase, After, Before, Free, Exact}
 use Rattle.cg_meaning.specs.Scene.{Scene, scene_on}
-use Rattle.cg_meaning.specs.Weights.{Weighting}
-use Rattle.cg_meaning.proofs.Pin.{held_at}
+use Rattle.cg_meaning.specs.Weights.{Weighting, held_at}
 use Rattle.cg_meaning.specs.Posterior.{total, total_at}
 use Rattle.cg_part.specs.Part.{part}
 use Rattle.cg_part.specs.Spans.{open_events}

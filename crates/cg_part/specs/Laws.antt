@@ -1,12 +1,11 @@
 -- What holds of every table. chron's own.
-use Rattle.std.specs.Prelude.{◌≡◌, ℕ, ◌+◌, ◌*◌, ◌/◌, ◌^◌, ◌<◌, ◌≤◌, ◌⊎◌, ◌==◌, cond, List, length, Option, None}
+use Rattle.std.specs.Prelude.{◌≡◌, ℕ, ◌+◌, ◌*◌, ◌/◌, ◌^◌, ◌<◌, ◌≤◌, ◌⊎◌, ◌==◌, cond, List, Option, None}
 use Rattle.cg_meaning.specs.Tree.{Tree, Dating, Free, count}
 use Rattle.cg_meaning.specs.Scene.{Scene}
-use Rattle.cg_meaning.specs.Weights.{Weighting, IsAdmitted}
+use Rattle.cg_meaning.specs.Weights.{Weighting, IsAdmitted, held_at}
 use Rattle.cg_meaning.specs.Sums.{product_by}
-use Rattle.cg_meaning.specs.Pairs.{pairs_at, span_weight, factorial}
+use Rattle.cg_meaning.specs.Pairs.{pairs_of, pair_at, span_weight, factorial}
 use Rattle.cg_meaning.specs.Posterior.{total, total_at}
-use Rattle.cg_meaning.proofs.Pin.{held_at}
 use Rattle.cg_part.specs.Part.{part}
 use Rattle.cg_part.specs.Spans.{open_events}
 use Rattle.cg_part.specs.Tables.{Table, table_of, table_total, row_of, spanned, span_item}
@@ -49,9 +48,10 @@ PinsAreLocal = (scene : Scene) (weighting : Weighting) (event cell : ℕ) → Is
 -- a pair from further out gives its weight to each open event, and nothing else
 abbrev pub OpenEventsCarryThePair : Type 0
 OpenEventsCarryThePair =
-    (grid_cells : ℕ) (outer : Option (ℕ × ℕ)) (tree : Tree) (cells : List ℕ) → length cells ≡ count tree →
-    product_by (λ pair. span_weight grid_cells pair) (pairs_at outer tree cells)
-    ≡ product_by (λ pair. span_weight grid_cells pair) (pairs_at None tree cells) * span_weight grid_cells outer ^ open_events tree
+    (grid_cells : ℕ) (outer : Option (ℕ × ℕ)) (number : ℕ) (tree : Tree) (cells : List ℕ) →
+    product_by (λ pair. span_weight grid_cells (pair_at cells pair)) (pairs_of outer number tree)
+    ≡ product_by (λ pair. span_weight grid_cells (pair_at cells pair)) (pairs_of None number tree)
+    * span_weight grid_cells (pair_at cells outer) ^ open_events tree
 
 -- a Boundary has the weight 1, so that its item is the span's
 abbrev pub ClosedSpans : Type 0

@@ -10,9 +10,8 @@ use Rattle.cg_table.specs.Formulas.{spanned_of}
 use Rattle.cg_table.specs.Losses.{greatest_loss, greatest_reach}
 use Rattle.cg_meaning.specs.Tree.{Dating, Free}
 use Rattle.cg_meaning.specs.Scene.{Scene, admits}
-use Rattle.cg_meaning.specs.Weights.{Weighting}
+use Rattle.cg_meaning.specs.Weights.{Weighting, held_at}
 use Rattle.cg_meaning.specs.Pairs.{factorial}
-use Rattle.cg_meaning.proofs.Pin.{held_at}
 use Rattle.cg_part.specs.Tables as exact
 use Rattle.cg_part.specs.Tables.{row_of}
 use Rattle.cg_recipe.specs.Recipe.{Rows, Pin, row_only, table_only, held_row, held_item, row_in, item_in}

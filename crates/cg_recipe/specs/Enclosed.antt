@@ -5,9 +5,8 @@ use Rattle.cg_table.specs.Row.{AreEntries}
 use Rattle.cg_table.specs.Table.{Table, EnclosesTable, EnclosesRow}
 use Rattle.cg_meaning.specs.Tree.{Tree, Leaf, Boundary, Group, Trees, none, more, Sequence, Phase, After, Before, Dating, count, datings_of}
 use Rattle.cg_meaning.specs.Scene.{Scene}
-use Rattle.cg_meaning.specs.Weights.{Weighting, IsAdmitted}
+use Rattle.cg_meaning.specs.Weights.{Weighting, IsAdmitted, held_at}
 use Rattle.cg_meaning.specs.Pairs.{factorial}
-use Rattle.cg_meaning.proofs.Pin.{held_at}
 use Rattle.cg_part.specs.Spans.{has_boundary, open_events}
 use Rattle.cg_part.specs.Part.{part}
 use Rattle.cg_part.specs.Tables.{row_of}
