@@ -9,7 +9,7 @@ use Rattle.cg_meaning.specs.Sums.{sum_over, product_from}
 use Rattle.cg_part.proofs.PairsRead.{spans-at}
 use Rattle.cg_part.specs.Part.{own_weight, suits}
 use Rattle.cg_part.specs.Spans.{has_boundary, open_events}
-use Rattle.cg_part.specs.Tables.{Table, sum_from, cumulated, identity, row_table, row_of, then_table, then_row, table_of, in_order, behind, side_by_side, beside, span_item}
+use Rattle.cg_part.specs.Tables.{ExactTable, sum_from, cumulated, identity, row_table, row_of, then_table, then_row, table_of, in_order, behind, side_by_side, beside, span_item}
 use Rattle.cg_part.specs.Laws.{PartSumsAreTables}
 use Rattle.cg_part.proofs.Ranges.{sum_from-same, sum_from-nest, sum_from-identity}
 use Rattle.cg_part.proofs.Cumulated.{cumulated-beside, cumulated-identity, cumulated-after, cumulated-before}
@@ -54,7 +54,7 @@ mutual
       ∙ ap (λ ps. up_to scene weight ps (datings_of_all ts) a b) (sym (paths_from Before 0 ts))
 
   -- the members of a Sequence onto a table, up to the first Boundary or without one
-  ordered_sums : (scene : Scene) (w : Weighting) (s : Table) (ts : Trees) (k n a b : ℕ) → a ≤ b → b < scene.grid.cells →
+  ordered_sums : (scene : Scene) (w : Weighting) (s : ExactTable) (ts : Trees) (k n a b : ℕ) → a ≤ b → b < scene.grid.cells →
       cumulated (in_order scene w n s ts) a b ≡ sum_from a b (λ c. s a c * ordered_parts scene w n None k ts c b)
   ordered_sums scene w s none k n a b h within =
       sum_from-same a b (λ c. s a c) (λ c. s a c * ordered_parts scene w n None k none c b) (λ c i j. rw (le-leb c b j) (omega arith))
@@ -78,7 +78,7 @@ mutual
       ∙ ordered_member scene w s (table_of scene w n t) t ts k n a b refl within (λ c e i j. table_sums scene w (Group kind name us) n c e i (omega arith))
 
   -- the members behind a Boundary where another one follows: those of the segment so far, and the rest
-  segment_sums : (scene : Scene) (w : Weighting) (s segment : Table) (ts : Trees) (k n opened a b : ℕ) → has_boundary ts ≡ true → a ≤ b →
+  segment_sums : (scene : Scene) (w : Weighting) (s segment : ExactTable) (ts : Trees) (k n opened a b : ℕ) → has_boundary ts ≡ true → a ≤ b →
       b < scene.grid.cells →
       cumulated (behind scene w n s segment opened ts) a b
       ≡ sum_from a b (λ c. s a c * sum_from c b (λ e. segment c e * segment_parts scene w n opened c k ts e b))
@@ -96,7 +96,7 @@ mutual
   segment_sums scene w s segment (more (Boundary name) ts) k n opened a b more_boundaries h within =
       let g = scene.grid.cells in
       let row = row_of scene w n Free in
-      let item : Table = λ c d. span_item g segment opened row c d in
+      let item : ExactTable = λ c d. span_item g segment opened row c d in
       let rest : ℕ → ℕ = λ d. ordered_parts scene w (n + 1) (Some d) (k + 1) ts d b in
       behind_sums scene w (then_table s item) ts (k + 1) (n + 1) a b (has_boundary ts) refl
       (λ others. segment_sums scene w (then_table s item) identity ts (k + 1) (n + 1) 0 a b others h within)
@@ -125,7 +125,7 @@ mutual
       (λ d e l m. table_sums scene w (Group kind name us) n d e l (omega arith))))
 
   -- the members of a Phase, beside a table
-  beside_sums : (scene : Scene) (w : Weighting) (s : Table) (ts : Trees) (k n a b : ℕ) → a ≤ b → b < scene.grid.cells →
+  beside_sums : (scene : Scene) (w : Weighting) (s : ExactTable) (ts : Trees) (k n a b : ℕ) → a ≤ b → b < scene.grid.cells →
       cumulated (side_by_side scene w n s ts) a b ≡ cumulated s a b * beside_parts scene w n k ts a b
   beside_sums scene w s none k n a b h within = rw (le-leb a b h) (omega arith)
   beside_sums scene w s (more t ts) k n a b h within =

@@ -11,7 +11,7 @@ use Rattle.cg_meaning.specs.Posterior.{allows, weight_of}
 use Rattle.cg_meaning.proofs.Sums.{sum_below-same, sum_over-same}
 use Rattle.cg_meaning.proofs.Pin.{total_held, times-cond}
 use Rattle.cg_part.specs.Part.{own_weight, reaches}
-use Rattle.cg_part.specs.Tables.{Table, sum_from, table_of, row_of, spanned, span_item}
+use Rattle.cg_part.specs.Tables.{ExactTable, sum_from, table_of, row_of, spanned, span_item}
 use Rattle.cg_part.specs.Laws.{TotalsAreByTables, PinnedTotals, PinsAreLocal, OpenEventsCarryThePair, ClosedSpans}
 use Rattle.cg_part.proofs.Blocks.{and_true}
 use Rattle.cg_part.proofs.Parts.{starts, up_to, up_to-same, reaches-within}
@@ -77,7 +77,7 @@ pinned_row scene w event cell d c =
     ap (λ x. cond (admits scene.grid d c) x 0) (held_here w event cell c) ∙ turned (admits scene.grid d c) (eqb c cell) (w event c)
 
 -- the span that it closes
-pinned_item : (scene : Scene) (w : Weighting) (event cell : ℕ) (t : Table) (opened a b : ℕ) →
+pinned_item : (scene : Scene) (w : Weighting) (event cell : ℕ) (t : ExactTable) (opened a b : ℕ) →
     span_item scene.grid.cells t opened (row_of scene (held_at event cell w) event Free) a b
     ≡ cond (b == cell) (span_item scene.grid.cells t opened (row_of scene w event Free) a b) 0
 pinned_item scene w event cell t opened a b =

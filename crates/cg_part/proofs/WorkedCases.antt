@@ -7,7 +7,7 @@ use Rattle.cg_meaning.specs.Weights.{Weighting, held_at}
 use Rattle.cg_meaning.specs.Posterior.{total, total_at}
 use Rattle.cg_part.specs.Part.{part}
 use Rattle.cg_part.specs.Spans.{open_events}
-use Rattle.cg_part.specs.Tables.{Table, table_of, table_total}
+use Rattle.cg_part.specs.Tables.{ExactTable, table_of, table_total}
 
 -- each event has the weight 1 at each cell
 abbrev ones : Weighting
@@ -46,7 +46,7 @@ abbrev boundary : Tree
 boundary = Boundary []
 
 -- the entries of a table on two cells
-abbrev entries : Table → List ℕ
+abbrev entries : ExactTable → List ℕ
 entries t = t 0 0 ∷ t 0 1 ∷ t 1 1 ∷ []
 
 -- Two events: Sequence {A; B}.

@@ -8,7 +8,7 @@ use Rattle.cg_meaning.specs.Pairs.{pairs_of, pair_at, span_weight, factorial}
 use Rattle.cg_meaning.specs.Posterior.{total, total_at}
 use Rattle.cg_part.specs.Part.{part}
 use Rattle.cg_part.specs.Spans.{open_events}
-use Rattle.cg_part.specs.Tables.{Table, table_of, table_total, row_of, spanned, span_item}
+use Rattle.cg_part.specs.Tables.{ExactTable, table_of, table_total, row_of, spanned, span_item}
 
 -- each entry of a node's table is the node's part sum
 abbrev pub PartSumsAreTables : Type 0
@@ -34,7 +34,7 @@ pub record IsPinning (scene : Scene) (weighting : Weighting) (event cell : ℕ) 
   pub row : (dating : Dating) (c : ℕ) →
       row_of scene (held_at event cell weighting) event dating c ≡ cond (c == cell) (row_of scene weighting event dating c) 0
   -- so is the item that it closes, as a Boundary, but at entries that reach the cell
-  pub item : (t : Table) (opened a b : ℕ) →
+  pub item : (t : ExactTable) (opened a b : ℕ) →
       span_item scene.grid.cells t opened (row_of scene (held_at event cell weighting) event Free) a b
       ≡ cond (b == cell) (span_item scene.grid.cells t opened (row_of scene weighting event Free) a b) 0
   -- a node without the event keeps its table
@@ -57,7 +57,7 @@ OpenEventsCarryThePair =
 abbrev pub ClosedSpans : Type 0
 ClosedSpans =
     (scene : Scene) (weighting : Weighting) (event : ℕ) → IsAdmitted scene Free (weighting event) →
-    (t : Table) (opened a b : ℕ) → b < scene.grid.cells →
+    (t : ExactTable) (opened a b : ℕ) → b < scene.grid.cells →
     span_item scene.grid.cells t opened (row_of scene weighting event Free) a b ≡ spanned scene.grid.cells t opened a b
 
 -- each number of cells divides G!, so that no weight of a span is rounded
