@@ -4,7 +4,7 @@ use Rattle.std.specs.Prelude.{IsTrue, ◌==◌}
 use Rattle.std.proofs.lemmas.Bool.Decides.{Decides-eqb}
 use Rattle.std.proofs.lemmas.List.{take_more}
 use Rattle.std.proofs.Math.Nat.{pow-zero, pow-succ', one-le-pow, pow-le-pow_right, mul-le-mul, mul-le-mul_left, mul_assoc, mul-one, div-le_self}
-use Rattle.cg_meaning.specs.Pairs.{factorial, span_weight}
+use Rattle.cg_meaning.specs.Pairs.{factorial, pair_at, span_weight}
 use Rattle.cg_meaning.specs.Sums.{product_by}
 
 -- a factorial is at least 1, and grows
@@ -41,9 +41,10 @@ span_weight-le cells None = factorial-some cells
 span_weight-le cells (Some pair) = div-le_self (factorial cells) (pair.1 - pair.0 + 1)
 
 -- a product of span weights is at most a power of it
-pub product_by-le : (cells : ℕ) (pairs : List (Option (ℕ × ℕ))) → product_by (λ pair. span_weight cells pair) pairs ≤ factorial cells ^ length pairs
-product_by-le cells [] = omega (arith, pow-zero (factorial cells))
-product_by-le cells (p ∷ ps) = rw pow-succ' (mul-le-mul (span_weight-le cells p) (product_by-le cells ps))
+pub product_by-le : (grid_cells : ℕ) (cells : List ℕ) (pairs : List (Option (ℕ × ℕ))) →
+    product_by (λ pair. span_weight grid_cells (pair_at cells pair)) pairs ≤ factorial grid_cells ^ length pairs
+product_by-le grid_cells cells [] = omega (arith, pow-zero (factorial grid_cells))
+product_by-le grid_cells cells (p ∷ ps) = rw pow-succ' (mul-le-mul (span_weight-le grid_cells (pair_at cells p)) (product_by-le grid_cells cells ps))
 
 product_by-push : {A : Type 0} (f : A → ℕ) (xs : List A) (y : A) → product_by f (xs ++ y ∷ []) ≡ product_by f xs * f y
 product_by-push f [] y = omega arith
@@ -55,12 +56,12 @@ pub product_by-next : {A : Type 0} (f : A → ℕ) (xs : List A) (i : ℕ) (d : 
 product_by-next f xs i d within = ap (λ ys. product_by f ys) (take_more xs i d within) ∙ product_by-push f (take i xs) (get_or xs i d)
 
 -- the product so far fits where the power of the factorial does
-pub product_by-fits : (cells : ℕ) (pairs : List (Option (ℕ × ℕ))) (i : ℕ) →
-    product_by (λ pair. span_weight cells pair) (take i pairs) ≤ factorial cells ^ length pairs
-product_by-fits cells pairs i =
+pub product_by-fits : (grid_cells : ℕ) (cells : List ℕ) (pairs : List (Option (ℕ × ℕ))) (i : ℕ) →
+    product_by (λ pair. span_weight grid_cells (pair_at cells pair)) (take i pairs) ≤ factorial grid_cells ^ length pairs
+product_by-fits grid_cells cells pairs i =
     let short : length (take i pairs) ≤ length pairs = omega (arith, length-take i pairs) in
-    let grows : factorial cells ^ length (take i pairs) ≤ factorial cells ^ length pairs = pow-le-pow_right (factorial-some cells) short in
-    omega (arith, product_by-le cells (take i pairs), grows)
+    let grows : factorial grid_cells ^ length (take i pairs) ≤ factorial grid_cells ^ length pairs = pow-le-pow_right (factorial-some grid_cells) short in
+    omega (arith, product_by-le grid_cells cells (take i pairs), grows)
 
 -- for the test of the size: of a number that doesn't fit, only the power 0 does
 pub power-fits : (weight events : ℕ) → (weight < 2 ^ 128 → ⊥) →

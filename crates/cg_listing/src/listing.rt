@@ -4,6 +4,7 @@ ghost use Rattle.std.specs.Option.{ForSome};
 ghost use Rattle.cg_meaning.specs.Tree.{count_all, paths_of, root_of};
 ghost use Rattle.cg_meaning.specs.Scene.{scene_on};
 ghost use Rattle.cg_meaning.specs.Sums.{sum_over};
+ghost use Rattle.cg_meaning.specs.Pairs.{boundary_pairs};
 ghost use Rattle.cg_meaning.specs.Posterior.{total, total_at};
 ghost use Rattle.cg_meaning.specs.Weights.{ones};
 ghost use Rattle.cg_listing.specs.Listing.{largest_sum, is_listed, share_of, IsBegun};
@@ -61,38 +62,41 @@ fn list(
         model,
         grid,
         paths: paths(alloc, model)?,
+        pairs: pairs(alloc, model)?,
         held,
     };
     let mut cells = Vec::new(alloc);
-    Ok(sum_of_lists(alloc, &listing, &mut cells)?)
+    Ok(sum_of_lists(&listing, &mut cells)?)
 }
 
-/// A small model on a grid, with the path to each event and the event that is held at a cell, if one is.
+/// A small model on a grid, with the path to each event, its Boundary pair, and the event that is held at a cell, if one is.
 #[derive(Drop)]
 struct Listing<'a> {
     model: &'a ModelTree,
     grid: &'a Grid,
     paths: Vec<Path>,
+    pairs: Vec<Option<(usize, usize)>>,
     held: Option<(usize, usize)>,
     ghost paths_are: { paths.items ≡ paths_of (root_of model.now) },
+    ghost pairs_are: { pairs.items ≡ boundary_pairs (root_of model.now) },
     ghost is_small: { largest_sum grid.now.cells (count_all model.now.top) < 2 ^ 128 },
     ghost is_event: { ForSome held (λ held. held.0 < count_all model.now.top) },
 }
 
 // over all lists of cells that begin with these
-fn sum_of_lists(alloc: Global, listing: &Listing, cells: &mut Vec<usize>) -> Result<u128, NoMemory>
+fn sum_of_lists(listing: &Listing, cells: &mut Vec<usize>) -> Result<u128, NoMemory>
     requires { IsBegun listing.now.grid.now.cells (count_all listing.now.model.now.top) cells.old.items }
     ensures sum { IfOk result (λ sum. sum ≡ sum_over listing.now.grid.now.cells (count_all listing.now.model.now.top - length cells.old.items)
         (λ later. share_of (root_of listing.now.model.now) (scene_on listing.now.grid.now) listing.now.held (cells.old.items ++ later))) }
     ensures same { OnOk result (cells.new.items ≡ cells.old.items) }
 {
     if cells.len() == listing.model.events() as usize {
-        return listing.share(alloc, cells);
+        return Ok(listing.share(cells));
     }
     let mut sum: u128 = 0;
     for cell in 0..listing.grid.cells() {
         cells.push(cell)?;
-        sum += sum_of_lists(alloc, listing, cells)?;
+        sum += sum_of_lists(listing, cells)?;
         cells.pop();
     }
     Ok(sum)
@@ -100,16 +104,15 @@ fn sum_of_lists(alloc: Global, listing: &Listing, cells: &mut Vec<usize>) -> Res
 
 impl<'a> Listing<'a> {
     // what a list with a cell for each event adds
-    fn share(&self, alloc: Global, cells: &[usize]) -> Result<u128, NoMemory>
+    fn share(&self, cells: &[usize]) -> u128
         requires each { length cells.now ≡ count_all self.now.model.now.top }
         requires within { All (λ cell. cell < self.now.grid.now.cells) cells.now }
-        ensures { IfOk result (λ share. share ≡ share_of (root_of self.now.model.now) (scene_on self.now.grid.now) self.now.held cells.now) }
+        ensures { result ≡ share_of (root_of self.now.model.now) (scene_on self.now.grid.now) self.now.held cells.now }
     {
         if !self.lists(cells) {
-            return Ok(0);
+            return 0;
         }
-        let pairs = pairs(alloc, self.model, cells)?;
-        Ok(span_product(self.grid.cells(), &pairs))
+        span_product(self.grid.cells(), cells, &self.pairs)
     }
 
     fn lists(&self, cells: &[usize]) -> bool

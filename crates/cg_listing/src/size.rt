@@ -1,7 +1,7 @@
 //! How large a model may be, and the span weights.
-ghost use Rattle.std.specs.Prelude.{◌≡◌, ◌<◌, ◌*◌, ◌^◌, ◌↔◌, IsTrue, length};
+ghost use Rattle.std.specs.Prelude.{◌≡◌, ◌<◌, ◌*◌, ◌^◌, ◌↔◌, IsTrue, length, slice_index};
 ghost use Rattle.std.specs.Option.{SomeIff};
-ghost use Rattle.cg_meaning.specs.Pairs.{factorial, span_weight};
+ghost use Rattle.cg_meaning.specs.Pairs.{factorial, pair_at, span_weight};
 ghost use Rattle.cg_meaning.specs.Sums.{product_by};
 ghost use Rattle.cg_listing.specs.Listing.{largest_sum};
 
@@ -53,16 +53,37 @@ fn factorial(n: usize) -> Option<u128>
     Some(product)
 }
 
-/// The product of the span weights of these Boundary pairs.
-pub(crate) fn span_product(cells: usize, pairs: &[Option<(usize, usize)>]) -> u128
-    requires { factorial cells ^ length pairs.now < 2 ^ 128 }
-    ensures { result ≡ product_by (λ pair. span_weight cells pair) pairs.now }
+/// The product of the span weights of these Boundary pairs, where the events are at these cells.
+pub(crate) fn span_product(
+    grid_cells: usize,
+    cells: &[usize],
+    pairs: &[Option<(usize, usize)>],
+) -> u128
+    requires { factorial grid_cells ^ length pairs.now < 2 ^ 128 }
+    ensures { result ≡ product_by (λ pair. span_weight grid_cells (pair_at cells.now pair)) pairs.now }
 {
     let mut product: u128 = 1;
     for pair in pairs {
-        product *= span_weight(cells, *pair);
+        product *= span_weight(grid_cells, pair_at(cells, *pair));
     }
     product
+}
+
+// the cells of a pair
+fn pair_at(cells: &[usize], pair: Option<(usize, usize)>) -> Option<(usize, usize)>
+    ensures { result ≡ pair_at cells.now pair }
+{
+    match pair {
+        None => None,
+        Some((before, after)) => Some((cell_of(cells, before), cell_of(cells, after))),
+    }
+}
+
+// the cell of an event, and 0 past the last
+fn cell_of(cells: &[usize], event: usize) -> usize
+    ensures { result ≡ slice_index cells.now event }
+{
+    cells.get(event).copied().unwrap_or(0)
 }
 
 fn span_weight(cells: usize, pair: Option<(usize, usize)>) -> u128

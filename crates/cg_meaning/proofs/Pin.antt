@@ -1,17 +1,12 @@
 -- An event held at one cell, by its weights.
 use Rattle.std.proofs.Common.{◌≡◌, ℕ, zero, suc, ◌<◌, ◌+◌, ◌*◌, Bool, true, false, cond, ◌&&◌, eqb, ne_eqb, eq-eqb, List, [], ◌∷◌, length, get_or, refl, sym, ap, ◌∙◌, arith}
-use Rattle.std.specs.Prelude.{if◌then◌else◌, ◌==◌, None}
 use Rattle.cg_meaning.specs.Tree.{Tree, count}
 use Rattle.cg_meaning.specs.Scene.{Scene}
 use Rattle.cg_meaning.specs.Sums.{product_from, product_by}
-use Rattle.cg_meaning.specs.Pairs.{pairs_at, span_weight}
-use Rattle.cg_meaning.specs.Weights.{Weighting}
+use Rattle.cg_meaning.specs.Pairs.{boundary_pairs, pair_at, span_weight}
+use Rattle.cg_meaning.specs.Weights.{Weighting, held_at}
 use Rattle.cg_meaning.specs.Posterior.{allows, weight_of, total, total_at}
 use Rattle.cg_meaning.proofs.Sums.{sum_over-same}
-
--- the weights of this event are 0 but at the cell
-abbrev pub held_at : ℕ → ℕ → Weighting → Weighting
-held_at event cell w = λ e c. if (e == event) then cond (c == cell) (w e c) 0 else w e c
 
 -- the events after it keep their weights
 product_after : (event cell k : ℕ) (w : Weighting) (cells : List ℕ) → event < k →
@@ -56,7 +51,7 @@ both false p x s = refl
 pub total_held : (tree : Tree) (scene : Scene) (w : Weighting) (event cell : ℕ) → event < count tree →
     total tree scene (held_at event cell w) ≡ total_at tree scene w event cell
 total_held tree scene w event cell h =
-    let spans : List ℕ → ℕ = λ cells. product_by (λ pair. span_weight scene.grid.cells pair) (pairs_at None tree cells) in
+    let spans : List ℕ → ℕ = λ cells. product_by (λ pair. span_weight scene.grid.cells (pair_at cells pair)) (boundary_pairs tree) in
     sum_over-same scene.grid.cells (count tree) (λ cells. cond (allows tree scene cells) (weight_of tree scene (held_at event cell w) cells) 0)
     (λ cells. cond (allows tree scene cells && eqb (get_or cells event 0) cell) (weight_of tree scene w cells) 0)
     (λ cells l all.

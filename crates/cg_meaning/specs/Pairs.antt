@@ -1,19 +1,13 @@
 -- The Boundary pair of an event, and the weight of its span: after Bronk Ramsey 2009, events between uniform Boundaries
 -- at a and b have density 1 / (b - a), here 1 / (b - a + 1) on the cells of the grid.
-use Rattle.std.specs.Prelude.{ℕ, ◌+◌, ◌-◌, ◌*◌, ◌/◌, zero, suc, Option, Some, None, List, [], ◌∷◌, ◌++◌, take, drop}
+use Rattle.std.specs.Prelude.{ℕ, ◌+◌, ◌-◌, ◌*◌, ◌/◌, zero, suc, Option, Some, None, List, [], ◌∷◌, ◌++◌, slice_index}
 use Rattle.cg_meaning.specs.Tree.{Tree, Leaf, Boundary, Group, Trees, none, more, Sequence, Phase, After, Before, count}
 
--- the first of the cells
-abbrev pub first : List ℕ → Option ℕ
-first [] = None
-first (c ∷ cs) = Some c
-
--- the cell of the first Boundary among these members, whose events are at these cells
-abbrev pub boundary_after : Trees → List ℕ → Option ℕ
-boundary_after none cells = None
-boundary_after (more (Boundary name) ts) cells = first cells
-boundary_after (more (Leaf name d) ts) cells = boundary_after ts (drop 1 cells)
-boundary_after (more (Group kind name us) ts) cells = boundary_after ts (drop (count (Group kind name us)) cells)
+-- the first Boundary among these members, whose events are numbered from `number`
+abbrev pub boundary_after : ℕ → Trees → Option ℕ
+boundary_after number none = None
+boundary_after number (more (Boundary name) ts) = Some number
+boundary_after number (more t ts) = boundary_after (number + count t) ts
 
 -- the Boundaries on each side where both are there, else the pair from further out
 abbrev pub pair_of : Option ℕ → Option ℕ → Option (ℕ × ℕ) → Option (ℕ × ℕ)
@@ -21,30 +15,37 @@ pair_of (Some before) (Some after) outer = Some (before, after)
 pair_of (Some before) None outer = outer
 pair_of None after outer = outer
 
--- For events at these cells, the cells of each event's Boundary pair. `outer` is the pair from further out.
+-- The Boundary pair of each event, as the numbers of both Boundaries: the events are numbered from `number`, and `outer` is
+-- the pair from further out.
 abbrev mutual
-  pub pairs_at : Option (ℕ × ℕ) → Tree → List ℕ → List (Option (ℕ × ℕ))
-  pairs_at outer (Leaf name d) cells = outer ∷ []
-  pairs_at outer (Boundary name) cells = outer ∷ []
-  pairs_at outer (Group Sequence name ts) cells = pairs_in_sequence outer None ts cells
-  pairs_at outer (Group Phase name ts) cells = pairs_at_all outer ts cells
+  pub pairs_of : Option (ℕ × ℕ) → ℕ → Tree → List (Option (ℕ × ℕ))
+  pairs_of outer number (Leaf name d) = outer ∷ []
+  pairs_of outer number (Boundary name) = outer ∷ []
+  pairs_of outer number (Group Sequence name ts) = pairs_in_sequence outer None number ts
+  pairs_of outer number (Group Phase name ts) = pairs_of_all outer number ts
   -- no pair from further out reaches into these
-  pairs_at outer (Group After name ts) cells = pairs_at_all None ts cells
-  pairs_at outer (Group Before name ts) cells = pairs_at_all None ts cells
+  pairs_of outer number (Group After name ts) = pairs_of_all None number ts
+  pairs_of outer number (Group Before name ts) = pairs_of_all None number ts
 
-  pub pairs_at_all : Option (ℕ × ℕ) → Trees → List ℕ → List (Option (ℕ × ℕ))
-  pairs_at_all outer none cells = []
-  pairs_at_all outer (more t ts) cells = pairs_at outer t (take (count t) cells) ++ pairs_at_all outer ts (drop (count t) cells)
+  pub pairs_of_all : Option (ℕ × ℕ) → ℕ → Trees → List (Option (ℕ × ℕ))
+  pairs_of_all outer number none = []
+  pairs_of_all outer number (more t ts) = pairs_of outer number t ++ pairs_of_all outer (number + count t) ts
 
   -- of members of a Sequence, with the nearest Boundary before them; a Boundary's own Sequence gives it no pair
-  pub pairs_in_sequence : Option (ℕ × ℕ) → Option ℕ → Trees → List ℕ → List (Option (ℕ × ℕ))
-  pairs_in_sequence outer before none cells = []
-  pairs_in_sequence outer before (more (Boundary name) ts) cells = outer ∷ pairs_in_sequence outer (first cells) ts (drop 1 cells)
-  pairs_in_sequence outer before (more (Leaf name d) ts) cells =
-      pair_of before (boundary_after ts (drop 1 cells)) outer ∷ pairs_in_sequence outer before ts (drop 1 cells)
-  pairs_in_sequence outer before (more (Group kind name us) ts) cells =
-      pairs_at (pair_of before (boundary_after ts (drop (count (Group kind name us)) cells)) outer) (Group kind name us) (take (count (Group kind name us)) cells)
-      ++ pairs_in_sequence outer before ts (drop (count (Group kind name us)) cells)
+  pub pairs_in_sequence : Option (ℕ × ℕ) → Option ℕ → ℕ → Trees → List (Option (ℕ × ℕ))
+  pairs_in_sequence outer before number none = []
+  pairs_in_sequence outer before number (more (Boundary name) ts) = outer ∷ pairs_in_sequence outer (Some number) (number + 1) ts
+  pairs_in_sequence outer before number (more t ts) =
+      pairs_of (pair_of before (boundary_after (number + count t) ts) outer) number t ++ pairs_in_sequence outer before (number + count t) ts
+
+-- those of a whole tree
+abbrev pub boundary_pairs : Tree → List (Option (ℕ × ℕ))
+boundary_pairs tree = pairs_of None 0 tree
+
+-- the cells of a pair, where the events are at these cells
+abbrev pub pair_at : List ℕ → Option (ℕ × ℕ) → Option (ℕ × ℕ)
+pair_at cells None = None
+pair_at cells (Some pair) = Some (slice_index cells pair.0, slice_index cells pair.1)
 
 abbrev pub factorial : ℕ → ℕ
 factorial zero = 1

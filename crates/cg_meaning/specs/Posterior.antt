@@ -6,7 +6,7 @@ use Rattle.cg_meaning.specs.Tree.{Tree, count, datings_of, paths_of}
 use Rattle.cg_meaning.specs.Order.{is_ordered}
 use Rattle.cg_meaning.specs.Scene.{Scene, is_dated}
 use Rattle.cg_meaning.specs.Weights.{Weighting, AreAdmitted}
-use Rattle.cg_meaning.specs.Pairs.{pairs_at, span_weight}
+use Rattle.cg_meaning.specs.Pairs.{boundary_pairs, pair_at, span_weight}
 use Rattle.cg_meaning.specs.Sums.{sum_over, product_from, product_by}
 
 -- a list of cells, one for each event, is an allowed dating
@@ -16,7 +16,7 @@ allows tree scene cells = is_ordered (paths_of tree) cells && is_dated scene.gri
 -- the product, over the events, of the weight at the event's cell and of its span weight
 abbrev pub weight_of : Tree → Scene → Weighting → List ℕ → ℕ
 weight_of tree scene weighting cells =
-    product_from 0 weighting cells * product_by (λ pair. span_weight scene.grid.cells pair) (pairs_at None tree cells)
+    product_from 0 weighting cells * product_by (λ pair. span_weight scene.grid.cells (pair_at cells pair)) (boundary_pairs tree)
 
 -- the sum of the weights of all allowed datings
 abbrev pub total : Tree → Scene → Weighting → ℕ

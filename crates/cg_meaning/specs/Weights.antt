@@ -1,6 +1,6 @@
 -- The weights that an event's own dating gives to the cells. The likelihood of a radiocarbon date is that of
 -- Bronk Ramsey 1995: proportional to e^(-(r - c)^2 / (2 v)) / sqrt(v), for v the sum of both squared errors.
-use Rattle.std.specs.Prelude.{◌≡◌, ℕ, ◌+◌, ◌-◌, ◌*◌, ◌^◌, ◌<◌, ◌≤◌, Option, Some, None, ℤ, pos, ◌-ℤ◌, ◌*ℤ◌, slice_get, unsigned_abs, option_map}
+use Rattle.std.specs.Prelude.{◌≡◌, ℕ, ◌+◌, ◌-◌, ◌*◌, ◌^◌, ◌<◌, ◌≤◌, ◌==◌, cond, if◌then◌else◌, Option, Some, None, ℤ, pos, ◌-ℤ◌, ◌*ℤ◌, slice_get, unsigned_abs, option_map}
 use Rattle.cg_meaning.specs.Tree.{Tree, Dating, Free, Exact, Normal, Carbon, datings_of}
 use Rattle.cg_meaning.specs.Curve.{Point, point_at}
 use Rattle.cg_meaning.specs.Scene.{Scene, year_of}
@@ -68,6 +68,10 @@ Weighting = ℕ → ℕ → ℕ
 -- each event has the weight 1 at each cell
 abbrev pub ones : Weighting
 ones event cell = 1
+
+-- the weights of one event are 0 but at one cell
+abbrev pub held_at : ℕ → ℕ → Weighting → Weighting
+held_at event cell weighting = λ e c. if (e == event) then cond (c == cell) (weighting e c) 0 else weighting e c
 
 -- the weights of each event of the tree are admitted
 abbrev pub AreAdmitted : Tree → Scene → Weighting → Type 0

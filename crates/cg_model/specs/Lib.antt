@@ -4,6 +4,7 @@ pub mod Found
 pub mod Grid
 pub mod Group
 pub mod Limits
+pub mod Member
 pub mod Node
 pub mod Stored
 pub mod View

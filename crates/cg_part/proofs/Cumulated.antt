@@ -3,7 +3,7 @@ use Rattle.std.proofs.Common.{◌≡◌, ℕ, zero, suc, ◌+◌, ◌-◌, ◌*�
 use Rattle.std.specs.Prelude.{if◌then◌else◌}
 use Rattle.std.proofs.lemmas.Bool.{cases_lt, cond-false, cond-true}
 use Rattle.std.proofs.Math.Nat.{mul-add, add-mul}
-use Rattle.cg_part.specs.Tables.{Table, sum_from, cumulated, identity, beside, after_group, before_group}
+use Rattle.cg_part.specs.Tables.{ExactTable, sum_from, cumulated, identity, beside, after_group, before_group}
 use Rattle.cg_part.proofs.Ranges.{onward, sum_from-same, sum_from-one, sum_from-last, sum_from-identity}
 
 -- an entry at the cell where it begins
@@ -19,7 +19,7 @@ grown : (cs ct s t : ℕ) → cs * ct + (cs * t + s * (ct + t)) ≡ (cs + s) * (
 grown cs ct s t = omega (arith, mul-add cs ct t, mul-add s ct t, add-mul cs s (ct + t), mul-add cs ct t)
 
 -- Side by side the sums are multiplied.
-pub cumulated-beside : (s t : Table) (a b : ℕ) → a ≤ b → cumulated (beside s t) a b ≡ cumulated s a b * cumulated t a b
+pub cumulated-beside : (s t : ExactTable) (a b : ℕ) → a ≤ b → cumulated (beside s t) a b ≡ cumulated s a b * cumulated t a b
 cumulated-beside s t a b h =
     onward (λ c. cumulated (beside s t) a c ≡ cumulated s a c * cumulated t a c) a b h
     (sum_from-one a (λ c. beside s t a c) ∙ at_same a (s a a * cumulated t a a) (cumulated s a (a - 1) * t a a + s a a * cumulated t a a)
@@ -38,7 +38,7 @@ cumulated-identity a b h =
     sum_from-same a b (λ c. identity a c) (λ c. identity a c * 1) (λ c l k. omega arith) ∙ sum_from-identity a b (λ c. 1) h
 
 -- An After group has the sums of its Phase from the oldest cell.
-pub cumulated-after : (t : Table) (a b : ℕ) → a ≤ b → cumulated (after_group t) a b ≡ cumulated t 0 b
+pub cumulated-after : (t : ExactTable) (a b : ℕ) → a ≤ b → cumulated (after_group t) a b ≡ cumulated t 0 b
 cumulated-after t a b h =
     onward (λ c. cumulated (after_group t) a c ≡ cumulated t 0 c) a b h
     (sum_from-one a (λ c. after_group t a c) ∙ at_same a (cumulated t 0 a) (t 0 a))
@@ -48,7 +48,7 @@ cumulated-after t a b h =
     ∙ sym (sum_from-last 0 c (λ d. t 0 d) (omega arith)))
 
 -- A Before group has the sum of its Phase to the youngest cell, at once.
-pub cumulated-before : (g : ℕ) (t : Table) (a b : ℕ) → a ≤ b → cumulated (before_group g t) a b ≡ cumulated t a (g - 1)
+pub cumulated-before : (g : ℕ) (t : ExactTable) (a b : ℕ) → a ≤ b → cumulated (before_group g t) a b ≡ cumulated t a (g - 1)
 cumulated-before g t a b h =
     onward (λ c. cumulated (before_group g t) a c ≡ cumulated t a (g - 1)) a b h
     (sum_from-one a (λ c. before_group g t a c) ∙ at_same a (cumulated t a (g - 1)) 0)

@@ -6,6 +6,8 @@ pub mod Parts
 pub mod Ordered
 pub mod Beside
 pub mod Groups
+pub mod CellPairs
+pub mod PairsRead
 pub mod Open
 pub mod Splits
 pub mod Members

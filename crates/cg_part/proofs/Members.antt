@@ -5,7 +5,7 @@ use Rattle.std.proofs.lemmas.Bool.{lt-leb}
 use Rattle.cg_meaning.specs.Tree.{Tree, Trees, Leaf, Boundary, Group, none, more, Kind, Sequence, Step, Dating, count, count_all, paths_of, paths_of_all}
 use Rattle.cg_meaning.specs.Scene.{Scene, admits}
 use Rattle.cg_part.specs.Part.{reaches}
-use Rattle.cg_part.specs.Tables.{Table, sum_from, cumulated, row_table, then_table, then_row}
+use Rattle.cg_part.specs.Tables.{ExactTable, sum_from, cumulated, row_table, then_table, then_row}
 use Rattle.cg_part.proofs.Ranges.{sum_below-range, sum_from-same, sum_from-nest, sum_from-scale_right}
 use Rattle.cg_part.proofs.Cumulated.{entry}
 use Rattle.cg_part.proofs.Blocks.{step, and_false}
@@ -58,21 +58,21 @@ part_leaf scene weight d a b h =
     (λ c l m. leaf_between (admits scene.grid d c) a b c (weight (c ∷ [])) l m)
 
 -- the table has the part sums of these events, up to b
-abbrev pub HasParts : Scene → Table → (List ℕ → ℕ) → List (List Step) → List Dating → ℕ → Type 0
+abbrev pub HasParts : Scene → ExactTable → (List ℕ → ℕ) → List (List Step) → List Dating → ℕ → Type 0
 HasParts scene t weight ps ds b = (c d : ℕ) → c ≤ d → d ≤ b → t c d ≡ at scene weight ps ds c d
 
 -- by the sums up to each cell
-pub has_parts : (scene : Scene) (t : Table) (weight : List ℕ → ℕ) (ps : List (List Step)) (ds : List Dating) (b : ℕ) →
+pub has_parts : (scene : Scene) (t : ExactTable) (weight : List ℕ → ℕ) (ps : List (List Step)) (ds : List Dating) (b : ℕ) →
     ((c d : ℕ) → c ≤ d → d ≤ b → cumulated t c d ≡ up_to scene weight ps ds c d) → HasParts scene t weight ps ds b
 has_parts scene t weight ps ds b same c d h l =
     entry (λ e. t c e) (λ e. at scene weight ps ds c e) c d h (λ e m k. same c e m (omega arith) ∙ sym (at-sum scene weight ps ds c e))
 
 -- an event after a table, as a table after it
-pub then_row_is : (s : Table) (row : ℕ → ℕ) (a b : ℕ) → then_row s row a b ≡ then_table s (row_table row) a b
+pub then_row_is : (s : ExactTable) (row : ℕ → ℕ) (a b : ℕ) → then_row s row a b ≡ then_table s (row_table row) a b
 then_row_is s row a b = sym (sum_from-scale_right a b (row b) (λ c. s a c))
 
 -- A member onto the earlier ones, before the later ones. The weight of the later ones may depend on what it reaches.
-pub then_member : (scene : Scene) (k a b : ℕ) (s t : Table) (ps qs : List (List Step)) (ds es : List Dating) (whole : ℕ → List ℕ →
+pub then_member : (scene : Scene) (k a b : ℕ) (s t : ExactTable) (ps qs : List (List Step)) (ds es : List Dating) (whole : ℕ → List ℕ →
     ℕ) (first : List ℕ → ℕ)
     (second : ℕ → List ℕ → ℕ) →
     length ds ≡ length ps → LeadBeyond Sequence k qs → b < scene.grid.cells → HasParts scene t first ps ds b →

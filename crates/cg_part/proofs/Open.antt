@@ -5,7 +5,8 @@ use Rattle.std.proofs.Math.Nat.{mul_assoc, mul-mul-mul_comm, pow-zero, pow-suc}
 use Rattle.std.proofs.lemmas.Nat.{pow-add}
 use Rattle.cg_meaning.specs.Tree.{Tree, Leaf, Boundary, Group, Trees, none, more, Sequence, Phase, After, Before, count, count_all}
 use Rattle.cg_meaning.specs.Sums.{product_by}
-use Rattle.cg_meaning.specs.Pairs.{first, boundary_after, pair_of, pairs_at, pairs_at_all, pairs_in_sequence, span_weight}
+use Rattle.cg_meaning.specs.Pairs.{pair_of, span_weight}
+use Rattle.cg_part.proofs.CellPairs.{first, boundary_at, pairs_at, pairs_at_all, pairs_at_sequence}
 use Rattle.cg_part.specs.Spans.{has_boundary, open_events, open_in_all, open_in_sequence}
 
 -- one factor
@@ -40,7 +41,7 @@ is_there None = false
 is_there (Some c) = true
 
 -- a Boundary among the members has a cell
-boundary-there : (ts : Trees) (cells : List ℕ) → length cells ≡ count_all ts → is_there (boundary_after ts cells) ≡ has_boundary ts
+boundary-there : (ts : Trees) (cells : List ℕ) → length cells ≡ count_all ts → is_there (boundary_at ts cells) ≡ has_boundary ts
 boundary-there none cells l = refl
 boundary-there (more (Boundary name) ts) [] l = absurd (omega arith)
 boundary-there (more (Boundary name) ts) (c ∷ cs) l = refl
@@ -67,11 +68,11 @@ open_step : (g : ℕ) (outer : Option (ℕ × ℕ)) (before : Option ℕ) (behin
     is_there before ≡ behind → length ys ≡ count_all ts →
     spans g (pairs_at outer t xs) ≡ spans g (pairs_at None t xs) * span_weight g outer ^ open_events t →
     spans g rest ≡ spans g rest_own * span_weight g outer ^ open_in_sequence behind ts →
-    spans g (pairs_at (pair_of before (boundary_after ts ys) outer) t xs ++ rest)
-    ≡ spans g (pairs_at (pair_of before (boundary_after ts ys) None) t xs ++ rest_own)
+    spans g (pairs_at (pair_of before (boundary_at ts ys) outer) t xs ++ rest)
+    ≡ spans g (pairs_at (pair_of before (boundary_at ts ys) None) t xs ++ rest_own)
     * span_weight g outer ^ ((if (behind && has_boundary ts) then 0 else open_events t) + open_in_sequence behind ts)
 open_step g outer before behind t ts xs ys rest rest_own b l one others =
-    let next = boundary_after ts ys in
+    let next = boundary_at ts ys in
     let n = if (behind && has_boundary ts) then 0 else open_events t in
     spans-append g (pairs_at (pair_of before next outer) t xs) rest
     ∙ joined (span_weight g outer) _ _ (spans g (pairs_at (pair_of before next None) t xs)) (spans g rest_own) n (open_in_sequence behind ts)
@@ -104,23 +105,23 @@ mutual
 
   spans-open_sequence : (g : ℕ) (outer : Option (ℕ × ℕ)) (before : Option ℕ) (behind : Bool) (ts : Trees) (cells : List ℕ) →
       is_there before ≡ behind → length cells ≡ count_all ts →
-      spans g (pairs_in_sequence outer before ts cells) ≡ spans g (pairs_in_sequence None before ts cells) * span_weight g outer ^ open_in_sequence behind ts
+      spans g (pairs_at_sequence outer before ts cells) ≡ spans g (pairs_at_sequence None before ts cells) * span_weight g outer ^ open_in_sequence behind ts
   spans-open_sequence g outer before behind none cells b l = no_factor (span_weight g outer) 1
   spans-open_sequence g outer before behind (more (Boundary name) ts) cells b l =
       let ys = drop 1 cells in
       let n : length ys ≡ count_all ts = omega (arith, length-drop 1 cells) in
-      joined (span_weight g outer) _ _ 1 (spans g (pairs_in_sequence None (first cells) ts ys)) 1 (open_in_sequence true ts)
+      joined (span_weight g outer) _ _ 1 (spans g (pairs_at_sequence None (first cells) ts ys)) 1 (open_in_sequence true ts)
       (one_factor (span_weight g outer)) (spans-open_sequence g outer (first cells) true ts ys (first-there cells (count_all ts) (omega arith)) n)
   spans-open_sequence g outer before behind (more (Leaf name d) ts) cells b l =
       let ys = drop 1 cells in
       let n : length ys ≡ count_all ts = omega (arith, length-drop 1 cells) in
-      open_step g outer before behind (Leaf name d) ts (take 1 cells) ys (pairs_in_sequence outer before ts ys)
-      (pairs_in_sequence None before ts ys) b n
+      open_step g outer before behind (Leaf name d) ts (take 1 cells) ys (pairs_at_sequence outer before ts ys)
+      (pairs_at_sequence None before ts ys) b n
       (omega (arith, one_factor (span_weight g outer))) (spans-open_sequence g outer before behind ts ys b n)
   spans-open_sequence g outer before behind (more (Group kind name us) ts) cells b l =
       let xs = take (count_all us) cells in
       let ys = drop (count_all us) cells in
       let m : length xs ≡ count_all us = length-take-le (count_all us) cells (omega arith) in
       let n : length ys ≡ count_all ts = omega (arith, length-drop (count_all us) cells) in
-      open_step g outer before behind (Group kind name us) ts xs ys (pairs_in_sequence outer before ts ys) (pairs_in_sequence None before ts ys) b n
+      open_step g outer before behind (Group kind name us) ts xs ys (pairs_at_sequence outer before ts ys) (pairs_at_sequence None before ts ys) b n
       (spans-open g outer (Group kind name us) xs m) (spans-open_sequence g outer before behind ts ys b n)

@@ -7,20 +7,21 @@ use Rattle.cg_meaning.specs.Tree.{Tree, Trees, Leaf, Boundary, Group, none, more
 use Rattle.cg_meaning.specs.Scene.{Scene, admits}
 use Rattle.cg_meaning.specs.Weights.{Weighting}
 use Rattle.cg_meaning.specs.Sums.{product_from}
-use Rattle.cg_meaning.specs.Pairs.{first, span_weight}
+use Rattle.cg_meaning.specs.Pairs.{span_weight}
+use Rattle.cg_part.proofs.CellPairs.{first}
 use Rattle.cg_meaning.proofs.Counts.{length-datings_of}
-use Rattle.cg_part.specs.Part.{own_weight, reaches}
+use Rattle.cg_part.specs.Part.{reaches}
 use Rattle.cg_part.specs.Spans.{has_boundary, open_events}
-use Rattle.cg_part.specs.Tables.{Table, sum_from, cumulated, identity, row_table, row_of, then_table, then_row, in_order, behind, span_item}
+use Rattle.cg_part.specs.Tables.{ExactTable, sum_from, cumulated, identity, row_table, row_of, then_table, then_row, in_order, behind, span_item}
 use Rattle.cg_part.proofs.Ranges.{sum_from-same, sum_from-identity}
 use Rattle.cg_part.proofs.Blocks.{and_true}
 use Rattle.cg_part.proofs.Parts.{starts, up_to, up_to-same}
 use Rattle.cg_part.proofs.Members.{length-paths_of, lead, part_leaf, has_parts, then_row_is, then_member}
-use Rattle.cg_part.proofs.Splits.{beside_weight, ordered_weight, closing, segment_weight, is_boundary, ordered-split, segment-split, last-weight}
+use Rattle.cg_part.proofs.Splits.{node_weight, beside_weight, ordered_weight, closing, segment_weight, is_boundary, ordered-split, segment-split, last-weight}
 
 -- the datings of a tree's own events
 abbrev pub own : Scene → Weighting → ℕ → Tree → ℕ → ℕ → ℕ
-own scene w n t a b = up_to scene (λ cells. own_weight scene w n t cells) (paths_of t) (datings_of t) a b
+own scene w n t a b = up_to scene (λ cells. node_weight scene w n t cells) (paths_of t) (datings_of t) a b
 
 -- those of members of a Phase, from place k on
 abbrev pub beside_parts : Scene → Weighting → ℕ → ℕ → Trees → ℕ → ℕ → ℕ
@@ -41,35 +42,35 @@ pub paired : (t : Tree) → length (datings_of t) ≡ length (paths_of t)
 paired t = length-datings_of t ∙ sym (length-paths_of t)
 
 -- the table of a node has its part sums, up to b
-abbrev pub IsTable : Scene → Weighting → ℕ → Tree → Table → ℕ → Type 0
+abbrev pub IsTable : Scene → Weighting → ℕ → Tree → ExactTable → ℕ → Type 0
 IsTable scene w n t table b = (c d : ℕ) → c ≤ d → d ≤ b → cumulated table c d ≡ own scene w n t c d
 
 -- a member of a Sequence onto the earlier ones, before the first Boundary
-pub ordered_member : (scene : Scene) (w : Weighting) (s table : Table) (t : Tree) (ts : Trees) (k n a b : ℕ) → is_boundary t ≡ false →
+pub ordered_member : (scene : Scene) (w : Weighting) (s table : ExactTable) (t : Tree) (ts : Trees) (k n a b : ℕ) → is_boundary t ≡ false →
     b < scene.grid.cells →
     IsTable scene w n t table b →
     sum_from a b (λ c. then_table s table a c * ordered_parts scene w (n + count t) None (k + 1) ts c b)
     ≡ sum_from a b (λ c. s a c * ordered_parts scene w n None k (more t ts) c b)
 ordered_member scene w s table t ts k n a b member within same =
     then_member scene k a b s table (paths_of t) (paths_of_all Sequence (k + 1) ts) (datings_of t) (datings_of_all ts)
-    (λ c cells. ordered_weight scene w n None (more t ts) cells) (λ cells. own_weight scene w n t cells)
+    (λ c cells. ordered_weight scene w n None (more t ts) cells) (λ cells. node_weight scene w n t cells)
     (λ c cells. ordered_weight scene w (n + count t) None ts cells)
     (paired t) (lead Sequence k (k + 1) ts (omega arith)) within
-    (has_parts scene table (λ cells. own_weight scene w n t cells) (paths_of t) (datings_of t) b same)
+    (has_parts scene table (λ cells. node_weight scene w n t cells) (paths_of t) (datings_of t) b same)
     (λ c xs ys l m starts. ordered-split scene w n t ts xs ys member (l ∙ length-paths_of t))
 
 -- a member of a segment, onto the earlier ones
-pub segment_member : (scene : Scene) (w : Weighting) (s table : Table) (t : Tree) (ts : Trees) (k n opened c b : ℕ) → is_boundary t ≡ false →
+pub segment_member : (scene : Scene) (w : Weighting) (s table : ExactTable) (t : Tree) (ts : Trees) (k n opened c b : ℕ) → is_boundary t ≡ false →
     b < scene.grid.cells →
     IsTable scene w n t table b →
     sum_from c b (λ e. then_table s table c e * segment_parts scene w (n + count t) (opened + open_events t) c (k + 1) ts e b)
     ≡ sum_from c b (λ e. s c e * segment_parts scene w n opened c k (more t ts) e b)
 segment_member scene w s table t ts k n opened c b member within same =
     then_member scene k c b s table (paths_of t) (paths_of_all Sequence (k + 1) ts) (datings_of t) (datings_of_all ts)
-    (λ e cells. segment_weight scene w n opened c (more t ts) cells) (λ cells. own_weight scene w n t cells)
+    (λ e cells. segment_weight scene w n opened c (more t ts) cells) (λ cells. node_weight scene w n t cells)
     (λ e cells. segment_weight scene w (n + count t) (opened + open_events t) c ts cells)
     (paired t) (lead Sequence k (k + 1) ts (omega arith)) within
-    (has_parts scene table (λ cells. own_weight scene w n t cells) (paths_of t) (datings_of t) b same)
+    (has_parts scene table (λ cells. node_weight scene w n t cells) (paths_of t) (datings_of t) b same)
     (λ e xs ys l m starts. segment-split scene w n opened c t ts xs ys member (l ∙ length-paths_of t))
 
 -- the table of one event
@@ -83,11 +84,11 @@ event_table scene row weight d a b within same =
 pub leaf_table : (scene : Scene) (w : Weighting) (name : Name) (d : Dating) (n a b : ℕ) → b < scene.grid.cells →
     cumulated (row_table (row_of scene w n d)) a b ≡ own scene w n (Leaf name d) a b
 leaf_table scene w name d n a b within =
-    event_table scene (row_of scene w n d) (λ cells. own_weight scene w n (Leaf name d) cells) d a b within
+    event_table scene (row_of scene w n d) (λ cells. node_weight scene w n (Leaf name d) cells) d a b within
     (λ c. ap (λ x. cond (admits scene.grid d c) x 0) (omega arith))
 
 -- an event of a Sequence onto the earlier members
-pub event_after : (s : Table) (row rest : ℕ → ℕ) (a b : ℕ) →
+pub event_after : (s : ExactTable) (row rest : ℕ → ℕ) (a b : ℕ) →
     sum_from a b (λ c. then_row s row a c * rest c) ≡ sum_from a b (λ c. then_table s (row_table row) a c * rest c)
 event_after s row rest a b =
     sum_from-same a b (λ c. then_row s row a c * rest c) (λ c. then_table s (row_table row) a c * rest c)
@@ -108,7 +109,7 @@ behind_weight scene w n ts whole first c (x ∷ []) ys l split h =
 behind_weight scene w n ts whole first c (x ∷ y ∷ zs) ys l split h = absurd (omega arith)
 
 -- A Boundary onto the earlier members, whatever the weight that comes with it: what follows has it before itself.
-pub boundary_member : (scene : Scene) (w : Weighting) (s : Table) (row : ℕ → ℕ) (name : Name) (ts : Trees)
+pub boundary_member : (scene : Scene) (w : Weighting) (s : ExactTable) (row : ℕ → ℕ) (name : Name) (ts : Trees)
     (whole first : List ℕ → ℕ) (k n a b : ℕ) → b < scene.grid.cells →
     ((c : ℕ) → row c ≡ first (c ∷ [])) →
     ((x : ℕ) (ys : List ℕ) → whole (x ∷ ys) ≡ first (x ∷ []) * ordered_weight scene w (n + 1) (Some x) ts ys) →
@@ -123,7 +124,7 @@ boundary_member scene w s row name ts whole first k n a b within same split =
     (λ c xs ys l m h. behind_weight scene w n ts whole first c xs ys l (λ x. split x ys) h)
 
 -- where no Boundary follows, the members are items
-behind_last : (scene : Scene) (w : Weighting) (s : Table) (ts : Trees) (n a b : ℕ) → has_boundary ts ≡ false →
+behind_last : (scene : Scene) (w : Weighting) (s : ExactTable) (ts : Trees) (n a b : ℕ) → has_boundary ts ≡ false →
     cumulated (behind scene w n s identity 0 ts) a b ≡ cumulated (in_order scene w n s ts) a b
 behind_last scene w s none n a b h = refl
 behind_last scene w s (more (Leaf name d) ts) n a b h = rw h refl
@@ -131,7 +132,7 @@ behind_last scene w s (more (Boundary name) ts) n a b h = absurd (false≢true (
 behind_last scene w s (more (Group kind name us) ts) n a b h = rw h refl
 
 -- The members behind a Boundary, onto what reaches it, by whether another one follows.
-pub behind_sums : (scene : Scene) (w : Weighting) (s : Table) (ts : Trees) (k n a b : ℕ) (more_boundaries : Bool) →
+pub behind_sums : (scene : Scene) (w : Weighting) (s : ExactTable) (ts : Trees) (k n a b : ℕ) (more_boundaries : Bool) →
     has_boundary ts ≡ more_boundaries →
     (has_boundary ts ≡ true → cumulated (behind scene w n s identity 0 ts) a b
     ≡ sum_from a b (λ c. s a c * sum_from c b (λ e. identity c e * segment_parts scene w n 0 c k ts e b))) →
@@ -159,7 +160,7 @@ abbrev pub closing_weight : Scene → Weighting → ℕ → ℕ → ℕ → List
 closing_weight scene w n opened c cells = product_from n w cells * closing scene opened c (first cells)
 
 -- A span item is the segment, and then its Boundary with the weight of the span.
-pub span_after : (scene : Scene) (w : Weighting) (segment : Table) (n opened c d : ℕ) →
+pub span_after : (scene : Scene) (w : Weighting) (segment : ExactTable) (n opened c d : ℕ) →
     span_item scene.grid.cells segment opened (row_of scene w n Free) c d
     ≡ then_row segment (λ x. closing_weight scene w n opened c (x ∷ [])) c d
 span_after scene w segment n opened c d =

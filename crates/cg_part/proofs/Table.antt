@@ -6,17 +6,18 @@ use Rattle.cg_meaning.specs.Tree.{Tree, Trees, Leaf, Boundary, Group, none, more
 use Rattle.cg_meaning.specs.Scene.{Scene}
 use Rattle.cg_meaning.specs.Weights.{Weighting}
 use Rattle.cg_meaning.specs.Sums.{sum_over, product_from}
+use Rattle.cg_part.proofs.PairsRead.{spans-at}
 use Rattle.cg_part.specs.Part.{own_weight, suits}
 use Rattle.cg_part.specs.Spans.{has_boundary, open_events}
-use Rattle.cg_part.specs.Tables.{Table, sum_from, cumulated, identity, row_table, row_of, then_table, then_row, table_of, in_order, behind, side_by_side, beside, span_item}
+use Rattle.cg_part.specs.Tables.{ExactTable, sum_from, cumulated, identity, row_table, row_of, then_table, then_row, table_of, in_order, behind, side_by_side, beside, span_item}
 use Rattle.cg_part.specs.Laws.{PartSumsAreTables}
 use Rattle.cg_part.proofs.Ranges.{sum_from-same, sum_from-nest, sum_from-identity}
 use Rattle.cg_part.proofs.Cumulated.{cumulated-beside, cumulated-identity, cumulated-after, cumulated-before}
 use Rattle.cg_part.proofs.Beside.{part_beside}
-use Rattle.cg_part.proofs.Parts.{up_to}
+use Rattle.cg_part.proofs.Parts.{up_to, up_to-same}
 use Rattle.cg_part.proofs.Groups.{paths_from, in_phase, part_after, part_before}
 use Rattle.cg_part.proofs.Members.{length-paths_of, lead, has_parts}
-use Rattle.cg_part.proofs.Splits.{beside_weight, ordered_weight, closing, segment_weight, beside-split, boundary-split}
+use Rattle.cg_part.proofs.Splits.{node_weight, beside_weight, ordered_weight, closing, segment_weight, beside-split, boundary-split}
 use Rattle.cg_part.proofs.Steps.{own, beside_parts, ordered_parts, segment_parts, paired, ordered_member, segment_member, leaf_table, event_after, boundary_member, behind_sums, closing_weight, span_after}
 
 -- onto nothing
@@ -29,7 +30,7 @@ closing_split v r c = mul_assoc v r c ∙ ap (λ x. v * x) (mul_comm r c) ∙ sy
 
 mutual
   -- The sums of a node's table are those of the datings of its own events.
-  pub table_sums : (scene : Scene) (w : Weighting) (t : Tree) (n a b : ℕ) → a ≤ b → b < scene.grid.cells →
+  table_sums : (scene : Scene) (w : Weighting) (t : Tree) (n a b : ℕ) → a ≤ b → b < scene.grid.cells →
       cumulated (table_of scene w n t) a b ≡ own scene w n t a b
   table_sums scene w (Leaf name d) n a b h within = leaf_table scene w name d n a b within
   table_sums scene w (Boundary name) n a b h within = leaf_table scene w name Free n a b within
@@ -53,7 +54,7 @@ mutual
       ∙ ap (λ ps. up_to scene weight ps (datings_of_all ts) a b) (sym (paths_from Before 0 ts))
 
   -- the members of a Sequence onto a table, up to the first Boundary or without one
-  ordered_sums : (scene : Scene) (w : Weighting) (s : Table) (ts : Trees) (k n a b : ℕ) → a ≤ b → b < scene.grid.cells →
+  ordered_sums : (scene : Scene) (w : Weighting) (s : ExactTable) (ts : Trees) (k n a b : ℕ) → a ≤ b → b < scene.grid.cells →
       cumulated (in_order scene w n s ts) a b ≡ sum_from a b (λ c. s a c * ordered_parts scene w n None k ts c b)
   ordered_sums scene w s none k n a b h within =
       sum_from-same a b (λ c. s a c) (λ c. s a c * ordered_parts scene w n None k none c b) (λ c i j. rw (le-leb c b j) (omega arith))
@@ -77,7 +78,7 @@ mutual
       ∙ ordered_member scene w s (table_of scene w n t) t ts k n a b refl within (λ c e i j. table_sums scene w (Group kind name us) n c e i (omega arith))
 
   -- the members behind a Boundary where another one follows: those of the segment so far, and the rest
-  segment_sums : (scene : Scene) (w : Weighting) (s segment : Table) (ts : Trees) (k n opened a b : ℕ) → has_boundary ts ≡ true → a ≤ b →
+  segment_sums : (scene : Scene) (w : Weighting) (s segment : ExactTable) (ts : Trees) (k n opened a b : ℕ) → has_boundary ts ≡ true → a ≤ b →
       b < scene.grid.cells →
       cumulated (behind scene w n s segment opened ts) a b
       ≡ sum_from a b (λ c. s a c * sum_from c b (λ e. segment c e * segment_parts scene w n opened c k ts e b))
@@ -95,7 +96,7 @@ mutual
   segment_sums scene w s segment (more (Boundary name) ts) k n opened a b more_boundaries h within =
       let g = scene.grid.cells in
       let row = row_of scene w n Free in
-      let item : Table = λ c d. span_item g segment opened row c d in
+      let item : ExactTable = λ c d. span_item g segment opened row c d in
       let rest : ℕ → ℕ = λ d. ordered_parts scene w (n + 1) (Some d) (k + 1) ts d b in
       behind_sums scene w (then_table s item) ts (k + 1) (n + 1) a b (has_boundary ts) refl
       (λ others. segment_sums scene w (then_table s item) identity ts (k + 1) (n + 1) 0 a b others h within)
@@ -124,7 +125,7 @@ mutual
       (λ d e l m. table_sums scene w (Group kind name us) n d e l (omega arith))))
 
   -- the members of a Phase, beside a table
-  beside_sums : (scene : Scene) (w : Weighting) (s : Table) (ts : Trees) (k n a b : ℕ) → a ≤ b → b < scene.grid.cells →
+  beside_sums : (scene : Scene) (w : Weighting) (s : ExactTable) (ts : Trees) (k n a b : ℕ) → a ≤ b → b < scene.grid.cells →
       cumulated (side_by_side scene w n s ts) a b ≡ cumulated s a b * beside_parts scene w n k ts a b
   beside_sums scene w s none k n a b h within = rw (le-leb a b h) (omega arith)
   beside_sums scene w s (more t ts) k n a b h within =
@@ -134,14 +135,22 @@ mutual
       ∙ ap (λ x. cumulated s a b * (x * rest)) (table_sums scene w t n a b h within)
       ∙ ap (λ x. cumulated s a b * x)
       (sym (part_beside scene Phase k a b (paths_of t) (paths_of_all Phase (k + 1) ts) (datings_of t) (datings_of_all ts)
-      (λ cells. beside_weight scene w n (more t ts) cells) (λ cells. own_weight scene w n t cells)
+      (λ cells. beside_weight scene w n (more t ts) cells) (λ cells. node_weight scene w n t cells)
       (λ cells. beside_weight scene w (n + count t) ts cells)
       refl refl refl (paired t) (lead Phase k (k + 1) ts (omega arith))
       (λ xs ys l m. beside-split scene w n t ts xs ys (l ∙ length-paths_of t))))
+
+-- They are the sums of the weights by numbers.
+pub own_sums : (scene : Scene) (w : Weighting) (t : Tree) (n a b : ℕ) → a ≤ b → b < scene.grid.cells →
+    cumulated (table_of scene w n t) a b ≡ up_to scene (λ cells. own_weight scene w n t cells) (paths_of t) (datings_of t) a b
+own_sums scene w t n a b h within =
+    table_sums scene w t n a b h within
+    ∙ up_to-same scene (λ cells. node_weight scene w n t cells) (λ cells. own_weight scene w n t cells) (paths_of t) (datings_of t) a b
+    (λ cells l. ap (λ x. product_from n w cells * x) (sym (spans-at scene.grid.cells t cells (l ∙ length-paths_of t))))
 
 -- Each entry of a node's table is its part sum.
 pub part-table : PartSumsAreTables
 part-table scene w n t a b h within =
     ap (λ k. sum_over scene.grid.cells k (λ cells. cond (suits t scene a b cells) (own_weight scene w n t cells) 0)) (sym (length-paths_of t))
     ∙ sym (has_parts scene (table_of scene w n t) (λ cells. own_weight scene w n t cells) (paths_of t) (datings_of t) b
-    (λ c d i j. table_sums scene w t n c d i (omega arith)) a b h (omega arith))
+    (λ c d i j. own_sums scene w t n c d i (omega arith)) a b h (omega arith))

@@ -1,26 +1,29 @@
 -- Totals of tables, and tables under a weighting that holds an event at a cell.
-use Rattle.std.proofs.Common.{◌≡◌, ℕ, suc, ◌<◌, ◌≤◌, ◌+◌, ◌-◌, ◌*◌, Bool, true, false, cond, ◌&&◌, ◌⊎◌, inl, inr, leb, le-leb, eqb, ne_eqb, eq-eqb, List, [], ◌∷◌, length, refl, sym, ap, ◌∙◌, arith, None}
+use Rattle.std.proofs.Common.{◌≡◌, ℕ, suc, ◌<◌, ◌≤◌, ◌+◌, ◌-◌, ◌*◌, ◌^◌, Bool, true, false, cond, ◌&&◌, ◌⊎◌, inl, inr, leb, le-leb, eqb, ne_eqb, eq-eqb, List, [], ◌∷◌, length, get_or, refl, sym, ap, ◌∙◌, arith, None}
 use Rattle.std.specs.Prelude.{◌==◌}
 use Rattle.std.specs.List.{zip}
 use Rattle.std.proofs.lemmas.Bool.{cond-true}
 use Rattle.cg_meaning.specs.Tree.{Tree, Dating, Free, count, datings_of, paths_of}
 use Rattle.cg_meaning.specs.Scene.{Scene, admits}
-use Rattle.cg_meaning.specs.Weights.{Weighting}
+use Rattle.cg_meaning.specs.Weights.{Weighting, held_at}
 use Rattle.cg_meaning.specs.Sums.{sum_below, sum_over, product_from}
 use Rattle.cg_meaning.specs.Posterior.{allows, weight_of}
 use Rattle.cg_meaning.proofs.Sums.{sum_below-same, sum_over-same}
-use Rattle.cg_meaning.proofs.Pin.{held_at, total_held, times-cond}
+use Rattle.cg_meaning.proofs.Pin.{total_held, times-cond}
 use Rattle.cg_part.specs.Part.{own_weight, reaches}
-use Rattle.cg_part.specs.Tables.{Table, sum_from, table_of, row_of, spanned, span_item}
+use Rattle.cg_part.specs.Tables.{ExactTable, sum_from, table_of, row_of, spanned, span_item}
 use Rattle.cg_part.specs.Laws.{TotalsAreByTables, PinnedTotals, PinsAreLocal, OpenEventsCarryThePair, ClosedSpans}
 use Rattle.cg_part.proofs.Blocks.{and_true}
 use Rattle.cg_part.proofs.Parts.{starts, up_to, up_to-same, reaches-within}
 use Rattle.cg_part.proofs.Groups.{begins-zero}
 use Rattle.cg_part.proofs.Cumulated.{entry}
 use Rattle.cg_part.proofs.Members.{length-paths_of}
-use Rattle.cg_meaning.specs.Pairs.{pairs_at}
-use Rattle.cg_part.proofs.Open.{spans, spans-open}
-use Rattle.cg_part.proofs.Table.{table_sums}
+use Rattle.cg_meaning.specs.Sums.{product_by}
+use Rattle.cg_meaning.specs.Pairs.{boundary_pairs, pair_at, span_weight}
+use Rattle.cg_part.proofs.PairsRead.{cells_from, length-cells_from, spans-from}
+use Rattle.cg_part.specs.Spans.{open_events}
+use Rattle.cg_part.proofs.Open.{spans-open}
+use Rattle.cg_part.proofs.Table.{own_sums}
 
 -- all cells
 sum_from-all : (n : ℕ) (f : ℕ → ℕ) → 0 < n → sum_below n f ≡ sum_from 0 (n - 1) f
@@ -50,7 +53,7 @@ pub totals : TotalsAreByTables
 totals scene w t some =
     let last = scene.grid.cells - 1 in
     sum_from-all scene.grid.cells (λ b. table_of scene w 0 t 0 b) some
-    ∙ table_sums scene w t 0 0 last (omega arith) (omega arith) ∙ all_parts scene w t some
+    ∙ own_sums scene w t 0 0 last (omega arith) (omega arith) ∙ all_parts scene w t some
 
 -- Held at a cell, that over the datings with the event there.
 pub pinned : PinnedTotals
@@ -74,7 +77,7 @@ pinned_row scene w event cell d c =
     ap (λ x. cond (admits scene.grid d c) x 0) (held_here w event cell c) ∙ turned (admits scene.grid d c) (eqb c cell) (w event c)
 
 -- the span that it closes
-pinned_item : (scene : Scene) (w : Weighting) (event cell : ℕ) (t : Table) (opened a b : ℕ) →
+pinned_item : (scene : Scene) (w : Weighting) (event cell : ℕ) (t : ExactTable) (opened a b : ℕ) →
     span_item scene.grid.cells t opened (row_of scene (held_at event cell w) event Free) a b
     ≡ cond (b == cell) (span_item scene.grid.cells t opened (row_of scene w event Free) a b) 0
 pinned_item scene w event cell t opened a b =
@@ -104,11 +107,11 @@ unpinned : (scene : Scene) (w : Weighting) (event cell n : ℕ) (t : Tree) (a b 
 unpinned scene w event cell n t a b others h within =
     let v = held_at event cell w in
     entry (λ c. table_of scene v n t a c) (λ c. table_of scene w n t a c) a b h
-    (λ c i j. table_sums scene v t n a c i (omega arith)
+    (λ c i j. own_sums scene v t n a c i (omega arith)
     ∙ up_to-same scene (λ cells. own_weight scene v n t cells) (λ cells. own_weight scene w n t cells) (paths_of t) (datings_of t) a c
-    (λ cells l. ap (λ x. x * spans scene.grid.cells (pairs_at None t cells))
+    (λ cells l. ap (λ x. x * product_by (λ pair. span_weight scene.grid.cells (pair_at cells pair)) (boundary_pairs t))
     (unheld w event cell n cells (outside event n (length cells) (count t) (l ∙ length-paths_of t) others)))
-    ∙ sym (table_sums scene w t n a c i (omega arith)))
+    ∙ sym (own_sums scene w t n a c i (omega arith)))
 
 -- What holding an event changes.
 pub pins : PinsAreLocal
@@ -120,7 +123,10 @@ pins scene w event cell = record {
 
 -- Open events carry the pair from further out.
 pub open-events : OpenEventsCarryThePair
-open-events g outer t cells l = spans-open g outer t cells l
+open-events g outer n t cells =
+    spans-from g cells outer n t
+    ∙ spans-open g (pair_at cells outer) t (cells_from (λ k. get_or cells k 0) n (count t)) (length-cells_from (λ k. get_or cells k 0) n (count t))
+    ∙ ap (λ x. x * span_weight g (pair_at cells outer) ^ open_events t) (sym (spans-from g cells None n t))
 
 -- Under admitted weights a closing Boundary adds nothing.
 pub closed-spans : ClosedSpans

@@ -3,12 +3,11 @@ use Rattle.std.proofs.Common.{◌≡◌, ℕ, refl, List, [], ◌∷◌, map, po
 use Rattle.std.specs.List.{range_with_len}
 use Rattle.cg_meaning.specs.Tree.{Tree, Leaf, Boundary, Group, Trees, none, more, Kind, Sequence, Phase, After, Before, Free, Exact}
 use Rattle.cg_meaning.specs.Scene.{Scene, scene_on}
-use Rattle.cg_meaning.specs.Weights.{Weighting}
-use Rattle.cg_meaning.proofs.Pin.{held_at}
+use Rattle.cg_meaning.specs.Weights.{Weighting, held_at}
 use Rattle.cg_meaning.specs.Posterior.{total, total_at}
 use Rattle.cg_part.specs.Part.{part}
 use Rattle.cg_part.specs.Spans.{open_events}
-use Rattle.cg_part.specs.Tables.{Table, table_of, table_total}
+use Rattle.cg_part.specs.Tables.{ExactTable, table_of, table_total}
 
 -- each event has the weight 1 at each cell
 abbrev ones : Weighting
@@ -47,7 +46,7 @@ abbrev boundary : Tree
 boundary = Boundary []
 
 -- the entries of a table on two cells
-abbrev entries : Table → List ℕ
+abbrev entries : ExactTable → List ℕ
 entries t = t 0 0 ∷ t 0 1 ∷ t 1 1 ∷ []
 
 -- Two events: Sequence {A; B}.

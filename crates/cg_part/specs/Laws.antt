@@ -1,15 +1,14 @@
 -- What holds of every table. chron's own.
-use Rattle.std.specs.Prelude.{◌≡◌, ℕ, ◌+◌, ◌*◌, ◌/◌, ◌^◌, ◌<◌, ◌≤◌, ◌⊎◌, ◌==◌, cond, List, length, Option, None}
+use Rattle.std.specs.Prelude.{◌≡◌, ℕ, ◌+◌, ◌*◌, ◌/◌, ◌^◌, ◌<◌, ◌≤◌, ◌⊎◌, ◌==◌, cond, List, Option, None}
 use Rattle.cg_meaning.specs.Tree.{Tree, Dating, Free, count}
 use Rattle.cg_meaning.specs.Scene.{Scene}
-use Rattle.cg_meaning.specs.Weights.{Weighting, IsAdmitted}
+use Rattle.cg_meaning.specs.Weights.{Weighting, IsAdmitted, held_at}
 use Rattle.cg_meaning.specs.Sums.{product_by}
-use Rattle.cg_meaning.specs.Pairs.{pairs_at, span_weight, factorial}
+use Rattle.cg_meaning.specs.Pairs.{pairs_of, pair_at, span_weight, factorial}
 use Rattle.cg_meaning.specs.Posterior.{total, total_at}
-use Rattle.cg_meaning.proofs.Pin.{held_at}
 use Rattle.cg_part.specs.Part.{part}
 use Rattle.cg_part.specs.Spans.{open_events}
-use Rattle.cg_part.specs.Tables.{Table, table_of, table_total, row_of, spanned, span_item}
+use Rattle.cg_part.specs.Tables.{ExactTable, table_of, table_total, row_of, spanned, span_item}
 
 -- each entry of a node's table is the node's part sum
 abbrev pub PartSumsAreTables : Type 0
@@ -35,7 +34,7 @@ pub record IsPinning (scene : Scene) (weighting : Weighting) (event cell : ℕ) 
   pub row : (dating : Dating) (c : ℕ) →
       row_of scene (held_at event cell weighting) event dating c ≡ cond (c == cell) (row_of scene weighting event dating c) 0
   -- so is the item that it closes, as a Boundary, but at entries that reach the cell
-  pub item : (t : Table) (opened a b : ℕ) →
+  pub item : (t : ExactTable) (opened a b : ℕ) →
       span_item scene.grid.cells t opened (row_of scene (held_at event cell weighting) event Free) a b
       ≡ cond (b == cell) (span_item scene.grid.cells t opened (row_of scene weighting event Free) a b) 0
   -- a node without the event keeps its table
@@ -49,15 +48,16 @@ PinsAreLocal = (scene : Scene) (weighting : Weighting) (event cell : ℕ) → Is
 -- a pair from further out gives its weight to each open event, and nothing else
 abbrev pub OpenEventsCarryThePair : Type 0
 OpenEventsCarryThePair =
-    (grid_cells : ℕ) (outer : Option (ℕ × ℕ)) (tree : Tree) (cells : List ℕ) → length cells ≡ count tree →
-    product_by (λ pair. span_weight grid_cells pair) (pairs_at outer tree cells)
-    ≡ product_by (λ pair. span_weight grid_cells pair) (pairs_at None tree cells) * span_weight grid_cells outer ^ open_events tree
+    (grid_cells : ℕ) (outer : Option (ℕ × ℕ)) (number : ℕ) (tree : Tree) (cells : List ℕ) →
+    product_by (λ pair. span_weight grid_cells (pair_at cells pair)) (pairs_of outer number tree)
+    ≡ product_by (λ pair. span_weight grid_cells (pair_at cells pair)) (pairs_of None number tree)
+    * span_weight grid_cells (pair_at cells outer) ^ open_events tree
 
 -- a Boundary has the weight 1, so that its item is the span's
 abbrev pub ClosedSpans : Type 0
 ClosedSpans =
     (scene : Scene) (weighting : Weighting) (event : ℕ) → IsAdmitted scene Free (weighting event) →
-    (t : Table) (opened a b : ℕ) → b < scene.grid.cells →
+    (t : ExactTable) (opened a b : ℕ) → b < scene.grid.cells →
     span_item scene.grid.cells t opened (row_of scene weighting event Free) a b ≡ spanned scene.grid.cells t opened a b
 
 -- each number of cells divides G!, so that no weight of a span is rounded

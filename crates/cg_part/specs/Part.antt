@@ -1,11 +1,11 @@
 -- What a node contributes: the datings of its own events, by where they begin and what they reach. chron's own.
-use Rattle.std.specs.Prelude.{ℕ, ◌*◌, None, max, Bool, ◌&&◌, ◌||◌, ◌==◌, cond, nat_le, List, [], ◌∷◌, if◌then◌else◌}
+use Rattle.std.specs.Prelude.{ℕ, ◌*◌, max, Bool, ◌&&◌, ◌||◌, ◌==◌, cond, nat_le, List, [], ◌∷◌, if◌then◌else◌}
 use Rattle.std.specs.List.{list_all, zip}
 use Rattle.cg_meaning.specs.Tree.{Tree, Step, count, paths_of}
 use Rattle.cg_meaning.specs.Order.{passes_after, passes_before}
 use Rattle.cg_meaning.specs.Scene.{Scene}
 use Rattle.cg_meaning.specs.Weights.{Weighting}
-use Rattle.cg_meaning.specs.Pairs.{pairs_at, span_weight}
+use Rattle.cg_meaning.specs.Pairs.{boundary_pairs, pair_at, span_weight}
 use Rattle.cg_meaning.specs.Sums.{sum_over, product_from, product_by}
 use Rattle.cg_meaning.specs.Posterior.{allows}
 
@@ -27,7 +27,7 @@ suits tree scene a b cells =
 -- node; the events are numbered from `number`
 abbrev pub own_weight : Scene → Weighting → ℕ → Tree → List ℕ → ℕ
 own_weight scene weighting number tree cells =
-    product_from number weighting cells * product_by (λ pair. span_weight scene.grid.cells pair) (pairs_at None tree cells)
+    product_from number weighting cells * product_by (λ pair. span_weight scene.grid.cells (pair_at cells pair)) (boundary_pairs tree)
 
 -- the part sum of a node: the sum of these products
 abbrev pub part : Scene → Weighting → ℕ → Tree → ℕ → ℕ → ℕ

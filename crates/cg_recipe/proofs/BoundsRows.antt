@@ -10,7 +10,7 @@ use Rattle.cg_table.proofs.LossLemmas.{greatest_loss-least}
 use Rattle.cg_table.proofs.ReachLemmas.{greatest_reach-least, IsExponent-more}
 use Rattle.cg_table.proofs.WithinLemmas.{IsWithin, within_more, zero-within, row_entry-within}
 use Rattle.cg_recipe.specs.Recipe.{Pin, Pass, row_only, table_only, held_row, row_in, held_item, item_in}
-use Rattle.cg_recipe.specs.Bounds.{AreLight, weight_loss, IsBounded}
+use Rattle.cg_recipe.specs.Bounds.{AreLight, weight_loss, IsBoundedTable}
 use Rattle.cg_recipe.proofs.BoundsTables.{IsBoundedRow, only-bounded, spanned-bounded}
 
 -- what holds at each cell holds of the list
@@ -49,14 +49,14 @@ row_in-bounded pass number light =
     held_row-bounded pass.cells weight_loss 1 pass.pin number (pass.rows number) (omega arith)
     (record { each = light.each number; entries = light.entries number; lost = light.loss number; reached = light.reach number })
 
-held_item-bounded : (cells k r : ℕ) (pin : Option Pin) (number : ℕ) (t : Table) → cells ≤ 512 → r ≤ 2 ^ 20 → IsBounded cells k r t → IsBounded cells k r (held_item pin number t)
+held_item-bounded : (cells k r : ℕ) (pin : Option Pin) (number : ℕ) (t : Table) → cells ≤ 512 → r ≤ 2 ^ 20 → IsBoundedTable cells k r t → IsBoundedTable cells k r (held_item pin number t)
 held_item-bounded cells k r None number t few near h = h
-held_item-bounded cells k r (Some pin) number t few near h = elim (number == pin.event) as (λ at. IsBounded cells k r (cond at (table_only pin.cell t) t)) [
+held_item-bounded cells k r (Some pin) number t few near h = elim (number == pin.event) as (λ at. IsBoundedTable cells k r (cond at (table_only pin.cell t) t)) [
   | true ↦ only-bounded cells k r pin.cell t few near h
   | false ↦ h
 ]
 
 -- the item of a span
-pub item_in-bounded : (pass : Pass) (k r number opened : ℕ) (segment : Table) → pass.cells ≤ 512 → r < 2 ^ 20 → opened ≤ 100 → IsBounded pass.cells k r segment → IsBounded pass.cells (k + 2 ^ 13) (r + 1) (item_in pass number segment opened)
+pub item_in-bounded : (pass : Pass) (k r number opened : ℕ) (segment : Table) → pass.cells ≤ 512 → r < 2 ^ 20 → opened ≤ 100 → IsBoundedTable pass.cells k r segment → IsBoundedTable pass.cells (k + 2 ^ 13) (r + 1) (item_in pass number segment opened)
 item_in-bounded pass k r number opened segment few near small h =
     held_item-bounded pass.cells (k + 2 ^ 13) (r + 1) pass.pin number _ few (omega arith) (spanned-bounded pass.cells k r opened segment few near small h)

@@ -11,12 +11,12 @@ use Rattle.cg_table.proofs.PlaceLemmas.{length-rows}
 use Rattle.cg_table.proofs.TableLemmas.{AreWithin, All-rows, rows-near, table-loss, table-reach}
 use Rattle.cg_table.proofs.WithinLemmas.{IsWithin, within_more, zero-within, entry-within, row_entry-within}
 use Rattle.cg_recipe.specs.Recipe.{table_only}
-use Rattle.cg_recipe.specs.Bounds.{IsBounded}
+use Rattle.cg_recipe.specs.Bounds.{IsBoundedTable}
 
 -- a table by a formula whose entries lose and reach no more
-bounded-table : (cells n k m r : ℕ) (f : ℕ → ℕ → Enclosure) → n ≡ cells → cells ≤ 512 → r ≤ 2 ^ 20 → m ≤ r * 2 ^ 31 → AreWithin cells f k m → IsBounded cells k r (table n f)
+bounded-table : (cells n k m r : ℕ) (f : ℕ → ℕ → Enclosure) → n ≡ cells → cells ≤ 512 → r ≤ 2 ^ 20 → m ≤ r * 2 ^ 31 → AreWithin cells f k m → IsBoundedTable cells k r (table n f)
 bounded-table cells n k m r f is few near small h =
-    subst (λ (c : ℕ). IsBounded cells k r (table c f)) (sym is)
+    subst (λ (c : ℕ). IsBoundedTable cells k r (table c f)) (sym is)
     (record {
       table = record {
         all_there = length-rows cells f cells;
@@ -32,14 +32,14 @@ bounded-table cells n k m r f is few near small h =
     })
 
 -- greater bounds hold too
-pub bounded_more : {cells k r k' r' : ℕ} {t : Table} → k ≤ k' → r ≤ r' → IsBounded cells k r t → IsBounded cells k' r' t
+pub bounded_more : {cells k r k' r' : ℕ} {t : Table} → k ≤ k' → r ≤ r' → IsBoundedTable cells k r t → IsBoundedTable cells k' r' t
 bounded_more le le' h = record { table = h.table; each = h.each; lost = omega (arith, h.lost, le); reached = omega (arith, h.reached, le') }
 
 -- each entry
-within : (cells k r : ℕ) (t : Table) → IsBounded cells k r t → (a b : ℕ) → IsWithin (entry t a b) k (r * 2 ^ 31)
+within : (cells k r : ℕ) (t : Table) → IsBoundedTable cells k r t → (a b : ℕ) → IsWithin (entry t a b) k (r * 2 ^ 31)
 within cells k r t h a b = within_more (entry t a b) (table_loss t) (table_reach t * 2 ^ 31) k (r * 2 ^ 31) h.lost (omega (arith, h.reached)) (entry-within t a b h.table)
 
-pub identity-bounded : (cells : ℕ) → cells ≤ 512 → IsBounded cells 0 1 (identity_of cells)
+pub identity-bounded : (cells : ℕ) → cells ≤ 512 → IsBoundedTable cells 0 1 (identity_of cells)
 identity-bounded cells few = bounded-table cells cells 0 66 1 identity_entry refl few (omega arith) (omega arith) (λ a b le less. identity-within a b)
 
 -- A row for this many cells with these bounds of its loss and its reach.
@@ -52,46 +52,46 @@ pub record IsBoundedRow (cells k r : ℕ) (row : List Enclosure) : Type 0 where
 within_row : (cells k r : ℕ) (row : List Enclosure) → IsBoundedRow cells k r row → (b : ℕ) → IsWithin (row_entry row b) k (r * 2 ^ 31)
 within_row cells k r row h b = within_more (row_entry row b) (greatest_loss row) (greatest_reach row * 2 ^ 31) k (r * 2 ^ 31) h.lost (omega (arith, h.reached)) (row_entry-within row b h.entries)
 
-pub row_table-bounded : (cells k r : ℕ) (row : List Enclosure) → cells ≤ 512 → r ≤ 2 ^ 20 → IsBoundedRow cells k r row → IsBounded cells k r (row_table row)
+pub row_table-bounded : (cells k r : ℕ) (row : List Enclosure) → cells ≤ 512 → r ≤ 2 ^ 20 → IsBoundedRow cells k r row → IsBoundedTable cells k r (row_table row)
 row_table-bounded cells k r row few near h = bounded-table cells (length row) k (r * 2 ^ 31) r (λ a b. row_entry row b) h.each few near (omega arith) (λ a b le less. within_row cells k r row h b)
 
-pub then_row-bounded : (cells k r k' r' : ℕ) (t : Table) (row : List Enclosure) → cells ≤ 512 → r + r' < 2 ^ 20 → IsBounded cells k r t → IsBoundedRow cells k' r' row → IsBounded cells (k + k' + 2 ^ 13) (r + r' + 1) (then_row_of t row)
+pub then_row-bounded : (cells k r k' r' : ℕ) (t : Table) (row : List Enclosure) → cells ≤ 512 → r + r' < 2 ^ 20 → IsBoundedTable cells k r t → IsBoundedRow cells k' r' row → IsBoundedTable cells (k + k' + 2 ^ 13) (r + r' + 1) (then_row_of t row)
 then_row-bounded cells k r k' r' t row few near h h' =
     bounded_more (omega arith) (omega arith)
     (bounded-table cells t.cells (k + k' + 3 * cells + 3) (r * 2 ^ 31 + r' * 2 ^ 31 + cells + 63) (r + r' + 1) (then_row_entry (entry t) (row_entry row)) h.each few (omega arith) (omega arith)
     (λ a b le less. then_row-within (entry t) (row_entry row) k (r * 2 ^ 31) k' (r' * 2 ^ 31) cells a b (within cells k r t h) (within_row cells k' r' row h') le less))
 
-pub then-bounded : (cells k r k' r' : ℕ) (s t : Table) → cells ≤ 512 → r + r' < 2 ^ 20 → IsBounded cells k r s → IsBounded cells k' r' t → IsBounded cells (k + k' + 2 ^ 13) (r + r' + 1) (then_of s t)
+pub then-bounded : (cells k r k' r' : ℕ) (s t : Table) → cells ≤ 512 → r + r' < 2 ^ 20 → IsBoundedTable cells k r s → IsBoundedTable cells k' r' t → IsBoundedTable cells (k + k' + 2 ^ 13) (r + r' + 1) (then_of s t)
 then-bounded cells k r k' r' s t few near h h' =
     bounded_more (omega arith) (omega arith)
     (bounded-table cells s.cells (k + k' + 3 * cells + 3) (r * 2 ^ 31 + r' * 2 ^ 31 + cells + 63) (r + r' + 1) (then_entry (entry s) (entry t)) h.each few (omega arith) (omega arith)
     (λ a b le less. then-within (entry s) (entry t) k (r * 2 ^ 31) k' (r' * 2 ^ 31) cells a b (within cells k r s h) (within cells k' r' t h') le less))
 
-pub beside-bounded : (cells k r k' r' : ℕ) (s t : Table) → cells ≤ 512 → r + r' < 2 ^ 20 → IsBounded cells k r s → IsBounded cells k' r' t → IsBounded cells (k + k' + 2 ^ 13) (r + r' + 1) (beside_of s t)
+pub beside-bounded : (cells k r k' r' : ℕ) (s t : Table) → cells ≤ 512 → r + r' < 2 ^ 20 → IsBoundedTable cells k r s → IsBoundedTable cells k' r' t → IsBoundedTable cells (k + k' + 2 ^ 13) (r + r' + 1) (beside_of s t)
 beside-bounded cells k r k' r' s t few near h h' =
     bounded_more (omega arith) (omega arith)
     (bounded-table cells s.cells (k + k' + 3 * cells + 6) (r * 2 ^ 31 + r' * 2 ^ 31 + cells + 64) (r + r' + 1) (beside_entry (entry s) (entry t)) h.each few (omega arith) (omega arith)
     (λ a b le less. beside-within (entry s) (entry t) k (r * 2 ^ 31) k' (r' * 2 ^ 31) cells a b (within cells k r s h) (within cells k' r' t h') le less))
 
-pub after-bounded : (cells k r : ℕ) (t : Table) → cells ≤ 512 → r < 2 ^ 20 → IsBounded cells k r t → IsBounded cells (k + 2 ^ 13) (r + 1) (after_of t)
+pub after-bounded : (cells k r : ℕ) (t : Table) → cells ≤ 512 → r < 2 ^ 20 → IsBoundedTable cells k r t → IsBoundedTable cells (k + 2 ^ 13) (r + 1) (after_of t)
 after-bounded cells k r t few near h =
     bounded_more (omega arith) (omega arith)
     (bounded-table cells t.cells (k + 3 * cells) (r * 2 ^ 31 + cells) (r + 1) (after_entry (entry t)) h.each few (omega arith) (omega arith)
     (λ a b le less. after-within (entry t) k (r * 2 ^ 31) cells a b (within cells k r t h) le less))
 
-pub before-bounded : (cells k r : ℕ) (t : Table) → cells ≤ 512 → r < 2 ^ 20 → IsBounded cells k r t → IsBounded cells (k + 2 ^ 13) (r + 1) (before_of t)
+pub before-bounded : (cells k r : ℕ) (t : Table) → cells ≤ 512 → r < 2 ^ 20 → IsBoundedTable cells k r t → IsBoundedTable cells (k + 2 ^ 13) (r + 1) (before_of t)
 before-bounded cells k r t few near h =
     bounded_more (omega arith) (omega arith)
     (bounded-table cells t.cells (k + 3 * cells) (r * 2 ^ 31 + cells) (r + 1) (before_entry t.cells (entry t)) h.each few (omega arith) (omega arith)
     (λ a b le less. subst (λ (n : ℕ). IsWithin (before_entry n (entry t) a b) (k + 3 * cells) (r * 2 ^ 31 + cells)) (sym h.each) (before-within (entry t) k (r * 2 ^ 31) cells a b (within cells k r t h))))
 
-pub spanned-bounded : (cells k r opened : ℕ) (t : Table) → cells ≤ 512 → r < 2 ^ 20 → opened ≤ 100 → IsBounded cells k r t → IsBounded cells (k + 2 ^ 13) (r + 1) (spanned_of t opened)
+pub spanned-bounded : (cells k r opened : ℕ) (t : Table) → cells ≤ 512 → r < 2 ^ 20 → opened ≤ 100 → IsBoundedTable cells k r t → IsBoundedTable cells (k + 2 ^ 13) (r + 1) (spanned_of t opened)
 spanned-bounded cells k r opened t few near small h =
     bounded_more (omega arith) (omega arith)
     (bounded-table cells t.cells (k + 3 * cells + 6 * opened + 3) (r * 2 ^ 31 + cells + 258 * opened + 129) (r + 1) (spanned_entry (entry t) opened) h.each few (omega arith) (omega arith)
     (λ a b le less. spanned-within (entry t) k (r * 2 ^ 31) opened cells a b (within cells k r t h) (omega arith) le less))
 
-pub only-bounded : (cells k r cell : ℕ) (t : Table) → cells ≤ 512 → r ≤ 2 ^ 20 → IsBounded cells k r t → IsBounded cells k r (table_only cell t)
+pub only-bounded : (cells k r cell : ℕ) (t : Table) → cells ≤ 512 → r ≤ 2 ^ 20 → IsBoundedTable cells k r t → IsBoundedTable cells k r (table_only cell t)
 only-bounded cells k r cell t few near h =
     bounded-table cells t.cells k (r * 2 ^ 31) r (λ a b. if b == cell then entry t a b else exact_zero) h.each few near (omega arith)
     (λ a b le less. elim (b == cell) as (λ at. IsWithin (cond at (entry t a b) exact_zero) k (r * 2 ^ 31)) [

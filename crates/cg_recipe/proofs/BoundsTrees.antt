@@ -7,7 +7,7 @@ use Rattle.cg_table.specs.Table.{Table}
 use Rattle.cg_table.specs.Formulas.{identity_of, then_of, then_row_of}
 use Rattle.cg_part.specs.Spans.{has_boundary, open_events, open_in_all, open_in_sequence}
 use Rattle.cg_recipe.specs.Recipe.{Pass, row_in, item_in, table_of, in_order, behind, side_by_side}
-use Rattle.cg_recipe.specs.Bounds.{AreLight, weight_loss, nodes, IsBounded, TablesAreBounded}
+use Rattle.cg_recipe.specs.Bounds.{AreLight, weight_loss, nodes, IsBoundedTable, TablesAreBounded}
 use Rattle.cg_recipe.proofs.BoundsTables.{bounded_more, identity-bounded, row_table-bounded, then_row-bounded, then-bounded, beside-bounded, after-bounded, before-bounded}
 use Rattle.cg_recipe.proofs.BoundsRows.{row_in-bounded, item_in-bounded}
 
@@ -57,7 +57,7 @@ nodes-some (Group kind name ts) = omega arith
 
 mutual
   pub node-bounded : (pass : Pass) (number : ℕ) (t : Tree) → IsReady pass → 8 * nodes t < 2 ^ 20 → count t ≤ 100 →
-      IsBounded pass.cells (count t * weight_loss + (8 * nodes t - 1) * 2 ^ 13) (8 * nodes t - 1) (table_of pass number t)
+      IsBoundedTable pass.cells (count t * weight_loss + (8 * nodes t - 1) * 2 ^ 13) (8 * nodes t - 1) (table_of pass number t)
   node-bounded pass number (Leaf name dating) ready near events =
       bounded_more (omega arith) (omega arith) (row_table-bounded pass.cells weight_loss 1 (row_in pass number) ready.few (omega arith) (row_in-bounded pass number ready.light))
   node-bounded pass number (Boundary name) ready near events =
@@ -76,7 +76,7 @@ mutual
       (side_by_side-bounded pass number 0 1 (identity_of pass.cells) ts ready (omega (arith, near)) events (identity-bounded pass.cells ready.few)))
 
   pub in_order-bounded : (pass : Pass) (number k r : ℕ) (before : Table) (ts : Trees) → IsReady pass → r + 8 * nodes_in ts < 2 ^ 20 → count_all ts ≤ 100 →
-      IsBounded pass.cells k r before → IsBounded pass.cells (k + added ts) (r + 8 * nodes_in ts) (in_order pass number before ts)
+      IsBoundedTable pass.cells k r before → IsBoundedTable pass.cells (k + added ts) (r + 8 * nodes_in ts) (in_order pass number before ts)
   in_order-bounded pass number k r before none ready near events h = bounded_more (omega arith) (omega arith) h
   in_order-bounded pass number k r before (more (Leaf name dating) ts) ready near events h =
       bounded_more (omega arith) (omega arith)
@@ -95,12 +95,12 @@ mutual
       (node-bounded pass number (Group kind name us) ready (omega (arith, near)) (omega (arith, events)))))
 
   pub behind-bounded : (pass : Pass) (number k r k' r' opened : ℕ) (before segment : Table) (ts : Trees) → IsReady pass →
-      r + r' + 8 * nodes_in ts < 2 ^ 20 → opened + count_all ts ≤ 100 → IsBounded pass.cells k r before → IsBounded pass.cells k' r' segment →
-      IsBounded pass.cells (k + k' + added ts) (r + r' + 8 * nodes_in ts) (behind pass number before segment opened ts)
+      r + r' + 8 * nodes_in ts < 2 ^ 20 → opened + count_all ts ≤ 100 → IsBoundedTable pass.cells k r before → IsBoundedTable pass.cells k' r' segment →
+      IsBoundedTable pass.cells (k + k' + added ts) (r + r' + 8 * nodes_in ts) (behind pass number before segment opened ts)
   behind-bounded pass number k r k' r' opened before segment none ready near events h h' = bounded_more (omega arith) (omega arith) h
   behind-bounded pass number k r k' r' opened before segment (more (Leaf name dating) ts) ready near events h h' =
       let row = row_in-bounded pass number ready.light in
-      elim (has_boundary ts) as (λ b. IsBounded pass.cells (k + k' + added (more (Leaf name dating) ts)) (r + r' + 8 * nodes_in (more (Leaf name dating) ts))
+      elim (has_boundary ts) as (λ b. IsBoundedTable pass.cells (k + k' + added (more (Leaf name dating) ts)) (r + r' + 8 * nodes_in (more (Leaf name dating) ts))
       (cond b (behind pass (number + 1) before (then_row_of segment (row_in pass number)) (opened + 1) ts) (in_order pass (number + 1) (then_row_of before (row_in pass number)) ts))) [
         | true ↦ bounded_more (omega arith) (omega arith)
             (behind-bounded pass (number + 1) k r (k' + weight_loss + 2 ^ 13) (r' + 1 + 1) (opened + 1) before _ ts ready (omega (arith, near)) (omega (arith, events)) h
@@ -118,7 +118,7 @@ mutual
   behind-bounded pass number k r k' r' opened before segment (more (Group kind name us) ts) ready near events h h' =
       let t = Group kind name us in
       let own = node-bounded pass number (Group kind name us) ready (omega (arith, near)) (omega (arith, events)) in
-      elim (has_boundary ts) as (λ b. IsBounded pass.cells (k + k' + added (more t ts)) (r + r' + 8 * nodes_in (more t ts))
+      elim (has_boundary ts) as (λ b. IsBoundedTable pass.cells (k + k' + added (more t ts)) (r + r' + 8 * nodes_in (more t ts))
       (cond b (behind pass (number + count t) before (then_of segment (table_of pass number t)) (opened + open_events t) ts) (in_order pass (number + count t) (then_of before (table_of pass number t)) ts))) [
         | true ↦ bounded_more (omega arith) (omega arith)
             (behind-bounded pass (number + count t) k r (k' + (count t * weight_loss + (8 * nodes t - 1) * 2 ^ 13) + 2 ^ 13) (r' + (8 * nodes t - 1) + 1) (opened + open_events t) before _ ts ready
@@ -130,7 +130,7 @@ mutual
       ]
 
   pub side_by_side-bounded : (pass : Pass) (number k r : ℕ) (others : Table) (ts : Trees) → IsReady pass → r + 8 * nodes_in ts < 2 ^ 20 → count_all ts ≤ 100 →
-      IsBounded pass.cells k r others → IsBounded pass.cells (k + added ts) (r + 8 * nodes_in ts) (side_by_side pass number others ts)
+      IsBoundedTable pass.cells k r others → IsBoundedTable pass.cells (k + added ts) (r + 8 * nodes_in ts) (side_by_side pass number others ts)
   side_by_side-bounded pass number k r others none ready near events h = bounded_more (omega arith) (omega arith) h
   side_by_side-bounded pass number k r others (more t ts) ready near events h =
       let some = nodes-some t in

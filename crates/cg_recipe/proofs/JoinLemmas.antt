@@ -34,17 +34,17 @@ total-from f a b n le e =
 pub identity-joins : (a b : ℕ) → exact_identity a b ≡ exact.identity a b
 identity-joins a b = refl
 
-pub then_row-joins : (x : exact.Table) (y : ℕ → ℕ) (a b : ℕ) → a ≤ b → exact_then_row x y a b ≡ exact.then_row x y a b
+pub then_row-joins : (x : exact.ExactTable) (y : ℕ → ℕ) (a b : ℕ) → a ≤ b → exact_then_row x y a b ≡ exact.then_row x y a b
 then_row-joins x y a b le = ap (λ (n : ℕ). n * y b) (total-from (x a) a b (b - a + 1) le refl)
 
-pub then-joins : (x y : exact.Table) (a b : ℕ) → a ≤ b → exact_then x y a b ≡ exact.then_table x y a b
+pub then-joins : (x y : exact.ExactTable) (a b : ℕ) → a ≤ b → exact_then x y a b ≡ exact.then_table x y a b
 then-joins x y a b le = total-from (λ c. x a c * y c b) a b (b - a + 1) le refl
 
 -- nothing, and another term
 alone : (t m n : ℕ) → m ≡ n → 0 * t + m ≡ n
 alone t m n e = omega (arith, e)
 
-pub beside-joins : (x y : exact.Table) (a b : ℕ) → a ≤ b → exact_beside x y a b ≡ exact.beside x y a b
+pub beside-joins : (x y : exact.ExactTable) (a b : ℕ) → a ≤ b → exact_beside x y a b ≡ exact.beside x y a b
 beside-joins x y a b le =
     elim (cases_eq a b) [
       | inl e ↦
@@ -54,10 +54,10 @@ beside-joins x y a b le =
           rw (ne_eqb a b ne) (ap₂ (λ (m n : ℕ). m * y a b + x a b * n) (total-from (x a) a (b - 1) (b - a) (omega arith) (omega arith)) (total-from (y a) a b (b - a + 1) le refl))
     ]
 
-pub after-joins : (x : exact.Table) (a b : ℕ) → exact_after x a b ≡ exact.after_group x a b
+pub after-joins : (x : exact.ExactTable) (a b : ℕ) → exact_after x a b ≡ exact.after_group x a b
 after-joins x a b = ap (λ (n : ℕ). if eqb a b then n else x 0 b) (total-from (x 0) 0 a (a + 1) (omega arith) (omega arith))
 
-pub before-joins : (cells : ℕ) (x : exact.Table) (a b : ℕ) → a < cells → exact_before cells x a b ≡ exact.before_group cells x a b
+pub before-joins : (cells : ℕ) (x : exact.ExactTable) (a b : ℕ) → a < cells → exact_before cells x a b ≡ exact.before_group cells x a b
 before-joins cells x a b less =
     ap (λ (n : ℕ). if eqb a b then n else 0) (total-from (x a) a (cells - 1) (cells - a) (omega arith) (omega arith))
 
@@ -65,6 +65,6 @@ before-joins cells x a b less =
 abbrev pub share : ℕ → ℕ → ℕ
 share cells s = factorial cells / s
 
-pub spanned-joins : (cells : ℕ) (x : exact.Table) (opened a b : ℕ) → a ≤ b →
+pub spanned-joins : (cells : ℕ) (x : exact.ExactTable) (opened a b : ℕ) → a ≤ b →
     exact_spanned x (share cells) opened a b ≡ exact.spanned cells x opened a b
 spanned-joins cells x opened a b le = ap (λ (n : ℕ). n * share cells (b - a + 1) ^ opened) (total-from (x a) a b (b - a + 1) le refl)

@@ -53,7 +53,7 @@ members : (g : Given) (number : ℕ) (t : Tree) (ts : Trees) → Weighed g numbe
 members g number t ts h = weighed-split g number (count t) (datings_of t) (datings_of_all ts) (length-datings_of t) h
 
 -- one of two tables, as a Boundary follows or not
-either : {n : ℕ} (b : Bool) {s t : Table} {x y : exact.Table} {d e : ℕ} → IsMade n s x d → IsMade n t y e →
+either : {n : ℕ} (b : Bool) {s t : Table} {x y : exact.ExactTable} {d e : ℕ} → IsMade n s x d → IsMade n t y e →
     IsMade n (if b then s else t) (if b then x else y) (if b then d else e)
 either true h k = h
 either false h k = k
@@ -71,7 +71,7 @@ mutual
 
   -- members of a Sequence, onto what precedes them
   in_order-made : (g : Given) (few : cells g ≤ 512) (number : ℕ) (ts : Trees) → Weighed g number (datings_of_all ts) →
-      {s : Table} {x : exact.Table} {d : ℕ} → IsMade (cells g) s x d →
+      {s : Table} {x : exact.ExactTable} {d : ℕ} → IsMade (cells g) s x d →
       IsMade (cells g) (in_order (pass g) number s ts) (exact.in_order g.scene (held g) number x ts) (in_order_divisor (cells g) g.m number d ts)
   in_order-made g few number none h made = made
   in_order-made g few number (more (Leaf name dating) ts) h made =
@@ -84,7 +84,7 @@ mutual
 
   -- members behind a Boundary
   behind-made : (g : Given) (few : cells g ≤ 512) (number opened : ℕ) (ts : Trees) → Weighed g number (datings_of_all ts) →
-      {s : Table} {x : exact.Table} {d : ℕ} → IsMade (cells g) s x d → {t : Table} {y : exact.Table} {e : ℕ} → IsMade (cells g) t y e →
+      {s : Table} {x : exact.ExactTable} {d : ℕ} → IsMade (cells g) s x d → {t : Table} {y : exact.ExactTable} {e : ℕ} → IsMade (cells g) t y e →
       IsMade (cells g) (behind (pass g) number s t opened ts) (exact.behind g.scene (held g) number x y opened ts) (behind_divisor (cells g) g.m number d e opened ts)
   behind-made g few number opened none h made segment = made
   behind-made g few number opened (more (Leaf name dating) ts) h made segment =
@@ -103,7 +103,7 @@ mutual
 
   -- members of a Phase, beside the earlier ones
   side_by_side-made : (g : Given) (few : cells g ≤ 512) (number : ℕ) (ts : Trees) → Weighed g number (datings_of_all ts) →
-      {s : Table} {x : exact.Table} {d : ℕ} → IsMade (cells g) s x d →
+      {s : Table} {x : exact.ExactTable} {d : ℕ} → IsMade (cells g) s x d →
       IsMade (cells g) (side_by_side (pass g) number s ts) (exact.side_by_side g.scene (held g) number x ts) (side_by_side_divisor (cells g) g.m number d ts)
   side_by_side-made g few number none h made = made
   side_by_side-made g few number (more t ts) h made =

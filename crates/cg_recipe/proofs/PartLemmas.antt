@@ -39,7 +39,7 @@ pub record IsAsked (cells : ℕ) (rows : Rows) (tree : Tree) (event : ℕ) : Typ
   pub light : AreLight cells rows
 
 -- the total of a table encloses the exact total
-total-encloses : (cells : ℕ) (t : Table) (x : exact.Table) (d : ℕ) → IsTable t → IsMade cells t x d →
+total-encloses : (cells : ℕ) (t : Table) (x : exact.ExactTable) (d : ℕ) → IsTable t → IsMade cells t x d →
     Encloses (total_entry t) (exact.table_total cells x) d
 total-encloses cells t x d valid made =
     subst (λ (n : ℕ). Encloses (total_entry t) n d) (total-below (x 0) t.cells ∙ ap (λ (n : ℕ). exact.table_total n x) made.each)

@@ -10,9 +10,8 @@ use Rattle.cg_table.specs.Formulas.{spanned_of}
 use Rattle.cg_table.specs.Losses.{greatest_loss, greatest_reach}
 use Rattle.cg_meaning.specs.Tree.{Dating, Free}
 use Rattle.cg_meaning.specs.Scene.{Scene, admits}
-use Rattle.cg_meaning.specs.Weights.{Weighting}
+use Rattle.cg_meaning.specs.Weights.{Weighting, held_at}
 use Rattle.cg_meaning.specs.Pairs.{factorial}
-use Rattle.cg_meaning.proofs.Pin.{held_at}
 use Rattle.cg_part.specs.Tables as exact
 use Rattle.cg_part.specs.Tables.{row_of}
 use Rattle.cg_recipe.specs.Recipe.{Rows, Pin, row_only, table_only, held_row, held_item, row_in, item_in}
@@ -53,10 +52,10 @@ row_only-row cells cell w y d h = record {
 }
 
 -- a table that is zero at all entries that reach another cell
-table_only-made : (cells cell : ℕ) (t : Table) (x : exact.Table) (d : ℕ) → IsMade cells t x d →
+table_only-made : (cells cell : ℕ) (t : Table) (x : exact.ExactTable) (d : ℕ) → IsMade cells t x d →
     IsMade cells (table_only cell t) (λ a b. cond (b == cell) (x a b) 0) d
 table_only-made cells cell t x d h =
-    let only : exact.Table = λ a b. cond (b == cell) (x a b) 0 in
+    let only : exact.ExactTable = λ a b. cond (b == cell) (x a b) 0 in
     of-formula cells t.cells (λ a b. if b == cell then entry t a b else exact_zero) only only d (table_loss t) (table_reach t * 2 ^ 31) h.each h.some
     (λ a b le less. only-within (b == cell) (entry t a b) (table_loss t) (table_reach t * 2 ^ 31) (entries-within t h.valid a b))
     (λ a b le less. only-encloses (b == cell) (entry t a b) (x a b) d (h.encloses.at a b le less)) (λ a b le less. refl)
@@ -67,7 +66,7 @@ row_if : (cells cell : ℕ) (held : Bool) (w : List Enclosure) (y : ℕ → ℕ)
 row_if cells cell true w y d h = row_only-row cells cell w y d h
 row_if cells cell false w y d h = h
 
-item_if : (cells cell : ℕ) (held : Bool) (t : Table) (x : exact.Table) (d : ℕ) → IsMade cells t x d →
+item_if : (cells cell : ℕ) (held : Bool) (t : Table) (x : exact.ExactTable) (d : ℕ) → IsMade cells t x d →
     IsMade cells (if held then table_only cell t else t) (λ a b. if held then cond (b == cell) (x a b) 0 else x a b) d
 item_if cells cell true t x d h = table_only-made cells cell t x d h
 item_if cells cell false t x d h = h
@@ -81,7 +80,7 @@ row-same cells w y z d same h = record {
   encloses = record { at = λ b less. subst (λ (n : ℕ). Encloses (row_entry w b) n d) (same b (omega (arith, h.each))) (h.encloses.at b less) };
 }
 
-pub made-same : (cells : ℕ) (t : Table) (x z : exact.Table) (d : ℕ) → ((a b : ℕ) → a ≤ b → b < cells → x a b ≡ z a b) → IsMade cells t x d → IsMade cells t z d
+pub made-same : (cells : ℕ) (t : Table) (x z : exact.ExactTable) (d : ℕ) → ((a b : ℕ) → a ≤ b → b < cells → x a b ≡ z a b) → IsMade cells t x d → IsMade cells t z d
 made-same cells t x z d same h = record {
   each = h.each;
   valid = h.valid;
@@ -121,7 +120,7 @@ pass-row scene w rows m (Some pin) number dating h =
     (row_if scene.grid.cells pin.cell (number == pin.event) (rows number) (row_of scene w number dating) (m number) (weighed-row scene w rows m number dating h))
 
 -- The item of a span in a pass; it has no multiplier of the Boundary that closes it.
-pub pass-item : (scene : Scene) (w : Weighting) (rows : Rows) (m : ℕ → ℕ) (pin : Option Pin) (number opened : ℕ) (t : Table) (x : exact.Table) (d : ℕ) →
+pub pass-item : (scene : Scene) (w : Weighting) (rows : Rows) (m : ℕ → ℕ) (pin : Option Pin) (number opened : ℕ) (t : Table) (x : exact.ExactTable) (d : ℕ) →
     scene.grid.cells ≤ 512 → IsWeighed scene w rows m number Free → IsMade scene.grid.cells t x d →
     IsMade scene.grid.cells (item_in (pass_of scene rows pin) number t opened)
     (exact.span_item scene.grid.cells x opened (row_of scene (weighting_in pin w) number Free)) (d * factorial scene.grid.cells ^ opened)

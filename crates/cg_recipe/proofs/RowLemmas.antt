@@ -12,6 +12,7 @@ use Rattle.cg_meaning.specs.Scene.{Scene}
 use Rattle.cg_meaning.specs.Cover.{AreCovered, IsCovered}
 use Rattle.cg_meaning.specs.Weights.{Weighting, IsAdmitted, AreAdmitted}
 use Rattle.cg_meaning.specs.Sums.{product_from}
+use Rattle.cg_meaning.specs.Pairs.{boundary_pairs}
 use Rattle.cg_meaning.specs.Posterior.{weight_of}
 use Rattle.cg_meaning.proofs.Sums.{AreCells}
 use Rattle.cg_meaning.proofs.Counts.{length-datings_of}
@@ -141,4 +142,4 @@ weight_of-some tree scene w cells known admitted l all =
     subst (λ (e : ℕ). 0 < w e cell) (sym (zero-add i))
     (admitted-some scene (dating_at tree i) (w i) cell (ranged-at tree scene i known) (covered-at tree scene i known)
     (admitted i (dating_at tree i) (slice_get-get_or (datings_of tree) i Free inside)) within)))
-    (spans-some scene.grid.cells None tree cells tt all)
+    (spans-some scene.grid.cells cells (boundary_pairs tree) all)

@@ -22,7 +22,7 @@ use Rattle.cg_part.proofs.Factorials.{exact-spans}
 use Rattle.cg_recipe.proofs.JoinLemmas.{share, then_row-joins, then-joins, beside-joins, after-joins, before-joins, spanned-joins}
 
 -- A table for this many cells whose entries enclose an exact one over d.
-pub record IsMade (cells : ℕ) (t : Table) (x : exact.Table) (d : ℕ) : Type 0 where
+pub record IsMade (cells : ℕ) (t : Table) (x : exact.ExactTable) (d : ℕ) : Type 0 where
   pub each : t.cells ≡ cells
   pub valid : All IsEnclosure t.entries
   pub some : 0 < d
@@ -54,11 +54,11 @@ read-within xs i valid = record {
 pub entries-within : (t : Table) → All IsEnclosure t.entries → AllWithin (entry t) (table_loss t) (table_reach t * 2 ^ 31)
 entries-within t valid a b = read-within t.entries (place t.cells a b) valid
 
-entries-enclose : {cells : ℕ} {t : Table} {x : exact.Table} {d : ℕ} → IsMade cells t x d → AllEnclose cells (entry t) x d
+entries-enclose : {cells : ℕ} {t : Table} {x : exact.ExactTable} {d : ℕ} → IsMade cells t x d → AllEnclose cells (entry t) x d
 entries-enclose h a b le less = h.encloses.at a b le (omega (arith, h.each))
 
 -- a table that a formula gives
-pub of-formula : (cells n : ℕ) (f : ℕ → ℕ → Enclosure) (z x : exact.Table) (d k m : ℕ) → n ≡ cells → 0 < d → AreWithin n f k m →
+pub of-formula : (cells n : ℕ) (f : ℕ → ℕ → Enclosure) (z x : exact.ExactTable) (d k m : ℕ) → n ≡ cells → 0 < d → AreWithin n f k m →
     ((a b : ℕ) → a ≤ b → b < n → Encloses (f a b) (z a b) d) → ((a b : ℕ) → a ≤ b → b < n → z a b ≡ x a b) → IsMade cells (table n f) x d
 of-formula cells n f z x d k m e some within encloses same = record {
   each = e;
@@ -78,7 +78,7 @@ row-made {cells = cells} {w = w} {y = y} {d = d} h =
     of-formula cells (length w) (λ a b. row_entry w b) (exact.row_table y) (exact.row_table y) d (greatest_loss w) (greatest_reach w * 2 ^ 31) h.each h.some
     (λ a b le less. read-within w b h.valid) (λ a b le less. h.encloses.at b less) (λ a b le less. refl)
 
-pub then_row-made : {cells : ℕ} {p : Table} {x : exact.Table} {d : ℕ} {w : List Enclosure} {y : ℕ → ℕ} {e : ℕ} → IsMade cells p x d → IsRow cells w y e →
+pub then_row-made : {cells : ℕ} {p : Table} {x : exact.ExactTable} {d : ℕ} {w : List Enclosure} {y : ℕ → ℕ} {e : ℕ} → IsMade cells p x d → IsRow cells w y e →
     IsMade cells (then_row_of p w) (exact.then_row x y) (d * e)
 then_row-made {cells = cells} {p = p} {x = x} {d = d} {w = w} {y = y} {e = e} h r =
     let inside : AllWithin (entry p) (table_loss p) (table_reach p * 2 ^ 31) = entries-within p h.valid in
@@ -89,7 +89,7 @@ then_row-made {cells = cells} {p = p} {x = x} {d = d} {w = w} {y = y} {e = e} h 
     h.encloses.at (r.encloses.at b (omega (arith, h.each, r.each))) le less)
     (λ a b le less. then_row-joins x y a b le)
 
-pub then-made : {cells : ℕ} {p : Table} {x : exact.Table} {d : ℕ} {t : Table} {y : exact.Table} {e : ℕ} → IsMade cells p x d → IsMade cells t y e →
+pub then-made : {cells : ℕ} {p : Table} {x : exact.ExactTable} {d : ℕ} {t : Table} {y : exact.ExactTable} {e : ℕ} → IsMade cells p x d → IsMade cells t y e →
     IsMade cells (then_of p t) (exact.then_table x y) (d * e)
 then-made {cells = cells} {p = p} {x = x} {d = d} {t = t} {y = y} {e = e} h k =
     let inside : AllWithin (entry p) (table_loss p) (table_reach p * 2 ^ 31) = entries-within p h.valid in
@@ -100,7 +100,7 @@ then-made {cells = cells} {p = p} {x = x} {d = d} {t = t} {y = y} {e = e} h k =
     h.encloses.at (λ i j le' less'. k.encloses.at i j le' (omega (arith, h.each, k.each))) le less)
     (λ a b le less. then-joins x y a b le)
 
-pub beside-made : {cells : ℕ} {p : Table} {x : exact.Table} {d : ℕ} {t : Table} {y : exact.Table} {e : ℕ} → IsMade cells p x d → IsMade cells t y e →
+pub beside-made : {cells : ℕ} {p : Table} {x : exact.ExactTable} {d : ℕ} {t : Table} {y : exact.ExactTable} {e : ℕ} → IsMade cells p x d → IsMade cells t y e →
     IsMade cells (beside_of p t) (exact.beside x y) (d * e)
 beside-made {cells = cells} {p = p} {x = x} {d = d} {t = t} {y = y} {e = e} h k =
     let inside : AllWithin (entry p) (table_loss p) (table_reach p * 2 ^ 31) = entries-within p h.valid in
@@ -111,7 +111,7 @@ beside-made {cells = cells} {p = p} {x = x} {d = d} {t = t} {y = y} {e = e} h k 
     h.encloses.at (λ i j le' less'. k.encloses.at i j le' (omega (arith, h.each, k.each))) le less)
     (λ a b le less. beside-joins x y a b le)
 
-pub after-made : {cells : ℕ} {t : Table} {x : exact.Table} {d : ℕ} → IsMade cells t x d → IsMade cells (after_of t) (exact.after_group x) d
+pub after-made : {cells : ℕ} {t : Table} {x : exact.ExactTable} {d : ℕ} → IsMade cells t x d → IsMade cells (after_of t) (exact.after_group x) d
 after-made {cells = cells} {t = t} {x = x} {d = d} h =
     let inside : AllWithin (entry t) (table_loss t) (table_reach t * 2 ^ 31) = entries-within t h.valid in
     of-formula cells t.cells (after_entry (entry t)) (λ a b. _) (exact.after_group x) d _ _ h.each h.some
@@ -119,7 +119,7 @@ after-made {cells = cells} {t = t} {x = x} {d = d} h =
     (λ a b le less. after-encloses (entry t) x d (table_loss t) (table_reach t * 2 ^ 31) t.cells a b h.some inside h.encloses.at le less)
     (λ a b le less. after-joins x a b)
 
-pub before-made : {cells : ℕ} {t : Table} {x : exact.Table} {d : ℕ} → IsMade cells t x d → IsMade cells (before_of t) (exact.before_group cells x) d
+pub before-made : {cells : ℕ} {t : Table} {x : exact.ExactTable} {d : ℕ} → IsMade cells t x d → IsMade cells (before_of t) (exact.before_group cells x) d
 before-made {cells = cells} {t = t} {x = x} {d = d} h =
     let inside : AllWithin (entry t) (table_loss t) (table_reach t * 2 ^ 31) = entries-within t h.valid in
     of-formula cells t.cells (before_entry t.cells (entry t)) (λ a b. _) (exact.before_group cells x) d _ _ h.each h.some
@@ -132,7 +132,7 @@ pub factorial-some : (n : ℕ) → 0 < factorial n
 factorial-some zero = omega arith
 factorial-some (suc n) = let more : 0 < suc n = omega arith in mul-pos more (factorial-some n)
 
-pub spanned-made : {cells : ℕ} {t : Table} {x : exact.Table} {d : ℕ} (opened : ℕ) → cells ≤ 512 → IsMade cells t x d →
+pub spanned-made : {cells : ℕ} {t : Table} {x : exact.ExactTable} {d : ℕ} (opened : ℕ) → cells ≤ 512 → IsMade cells t x d →
     IsMade cells (spanned_of t opened) (exact.spanned cells x opened) (d * factorial cells ^ opened)
 spanned-made {cells = cells} {t = t} {x = x} {d = d} opened few h =
     let inside : AllWithin (entry t) (table_loss t) (table_reach t * 2 ^ 31) = entries-within t h.valid in

@@ -23,7 +23,7 @@ abbrev pub nodes : Tree → ℕ
 nodes tree = count tree + groups_of tree
 
 -- A table of this many cells with these bounds of its loss and its reach.
-pub record IsBounded (cells loss reach : ℕ) (t : Table) : Type 0 where
+pub record IsBoundedTable (cells loss reach : ℕ) (t : Table) : Type 0 where
   pub table : IsTable t
   pub each : t.cells ≡ cells
   pub lost : table_loss t ≤ loss
@@ -34,4 +34,4 @@ abbrev pub TablesAreBounded : Type 0
 TablesAreBounded =
     (pass : Pass) (number : ℕ) (tree : Tree) → 1 ≤ pass.cells → pass.cells ≤ 512 → AreLight pass.cells pass.rows →
     count tree ≤ 100 → groups_of tree ≤ 61 →
-    IsBounded pass.cells (count tree * weight_loss + (8 * nodes tree - 1) * 2 ^ 13) (8 * nodes tree) (table_of pass number tree)
+    IsBoundedTable pass.cells (count tree * weight_loss + (8 * nodes tree - 1) * 2 ^ 13) (8 * nodes tree) (table_of pass number tree)

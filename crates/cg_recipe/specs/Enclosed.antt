@@ -5,9 +5,8 @@ use Rattle.cg_table.specs.Row.{AreEntries}
 use Rattle.cg_table.specs.Table.{Table, EnclosesTable, EnclosesRow}
 use Rattle.cg_meaning.specs.Tree.{Tree, Leaf, Boundary, Group, Trees, none, more, Sequence, Phase, After, Before, Dating, count, datings_of}
 use Rattle.cg_meaning.specs.Scene.{Scene}
-use Rattle.cg_meaning.specs.Weights.{Weighting, IsAdmitted}
+use Rattle.cg_meaning.specs.Weights.{Weighting, IsAdmitted, held_at}
 use Rattle.cg_meaning.specs.Pairs.{factorial}
-use Rattle.cg_meaning.proofs.Pin.{held_at}
 use Rattle.cg_part.specs.Spans.{has_boundary, open_events}
 use Rattle.cg_part.specs.Part.{part}
 use Rattle.cg_part.specs.Tables.{row_of}
@@ -73,7 +72,7 @@ weighting_in None weighting = weighting
 weighting_in (Some pin) weighting = held_at pin.event pin.cell weighting
 
 -- The table encloses these sums over a divisor above 0.
-pub record IsOver (t : Table) (sums : ℕ → ℕ → ℕ) (d : ℕ) : Type 0 where
+pub record EnclosesOver (t : Table) (sums : ℕ → ℕ → ℕ) (d : ℕ) : Type 0 where
   pub some : 0 < d
   pub encloses : EnclosesTable t sums d
 
@@ -85,5 +84,5 @@ abbrev pub TablesEnclosePartSums : Type 0
 TablesEnclosePartSums =
     (scene : Scene) (weighting : Weighting) (rows : Rows) (m : ℕ → ℕ) (number : ℕ) (tree : Tree) (pin : Option Pin) →
     scene.grid.cells ≤ 512 → AreWeighed scene weighting rows m number tree →
-    IsOver (table_of (pass_of scene rows pin) number tree) (part scene (weighting_in pin weighting) number tree)
+    EnclosesOver (table_of (pass_of scene rows pin) number tree) (part scene (weighting_in pin weighting) number tree)
     (divisor scene.grid.cells m number tree)

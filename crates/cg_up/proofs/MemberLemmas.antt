@@ -8,7 +8,8 @@ use Rattle.cg_model.specs.declared.node.Node.{Node}
 use Rattle.cg_model.proofs.NodeLemmas.{trees_from, trees_from-next}
 use Rattle.cg_part.specs.Spans.{has_boundary, open_events, open_in_all, open_in_sequence}
 use Rattle.cg_recipe.proofs.BoundsTrees.{open-few}
-use Rattle.cg_up.specs.Member.{is_boundary, open_member}
+use Rattle.cg_model.specs.Member.{is_boundary}
+use Rattle.cg_up.specs.Member.{open_member}
 
 -- the trees from a member on begin with its own
 pub trees_from-get : (items : List Node) (place : ℕ) (node : Node) → slice_get items place ≡ Some node → trees_from items place ≡ more (tree_of node) (trees_from items (place + 1))

@@ -8,7 +8,7 @@ use Rattle.cg_table.specs.Losses.{greatest_reach}
 use Rattle.cg_table.specs.Formulas.{identity_of, beside_of}
 use Rattle.cg_part.specs.Spans.{has_boundary, open_events}
 use Rattle.cg_recipe.specs.Recipe.{Pass, row_in, item_in, table_of, in_order, behind, side_by_side}
-use Rattle.cg_recipe.specs.Bounds.{IsBounded, weight_loss, nodes}
+use Rattle.cg_recipe.specs.Bounds.{IsBoundedTable, weight_loss, nodes}
 use Rattle.cg_recipe.specs.Ticks.{ticks_of, in_order_ticks, behind_ticks}
 use Rattle.cg_recipe.proofs.BoundsTables.{bounded_more, identity-bounded, then_row-bounded, then-bounded, beside-bounded}
 use Rattle.cg_recipe.proofs.BoundsRows.{row_in-bounded, item_in-bounded}
@@ -63,11 +63,11 @@ pub room_less : (cells n m : ℕ) (t : Table) → m ≤ n → HasReachFor cells 
 room_less cells n m t le h = record { table = h.table; each = h.each; near = omega (arith, h.near) }
 
 -- a bounded table has room
-pub bounded_room : (cells k r n : ℕ) (t : Table) → r + 8 * n < 2 ^ 20 → IsBounded cells k r t → HasReachFor cells n t
+pub bounded_room : (cells k r n : ℕ) (t : Table) → r + 8 * n < 2 ^ 20 → IsBoundedTable cells k r t → HasReachFor cells n t
 bounded_room cells k r n t near h = record { table = h.table; each = h.each; near = omega (arith, near, h.reached) }
 
 -- a table with room has bounds
-pub room_bounded : (cells n : ℕ) (t : Table) → HasReachFor cells n t → IsBounded cells (table_loss t) (table_reach t) t
+pub room_bounded : (cells n : ℕ) (t : Table) → HasReachFor cells n t → IsBoundedTable cells (table_loss t) (table_reach t) t
 room_bounded cells n t h = record { table = h.table; each = h.each; lost = omega arith; reached = omega arith }
 
 -- what follows a table: a group's table is of as many cells, and reaches little
@@ -95,7 +95,7 @@ item_fits pass number n m opened before segment item ready some room is =
     rw is (room.front.each ∙ sym own.each, omega (arith, room.near, own.reached, some))
 
 followed_by-bounded : (pass : Pass) (number : ℕ) (t : Tree) (before : Table) → IsReady pass → count t ≤ 100 → HasReachFor pass.cells (nodes t) before →
-    IsBounded pass.cells (table_loss before + count t * weight_loss + 8 * nodes t * 2 ^ 13) (table_reach before + 8 * nodes t) (followed_by pass number before t)
+    IsBoundedTable pass.cells (table_loss before + count t * weight_loss + 8 * nodes t * 2 ^ 13) (table_reach before + 8 * nodes t) (followed_by pass number before t)
 followed_by-bounded pass number (Leaf name dating) before ready few room =
     bounded_more (omega arith) (omega arith)
     (then_row-bounded pass.cells (table_loss before) (table_reach before) weight_loss 1 before (row_in pass number) ready.few (omega (arith, room.near)) (room_bounded pass.cells 1 before room) (row_in-bounded pass number ready.light))

@@ -3,7 +3,8 @@ ghost use Rattle.std.specs.Prelude.{◌≡◌, ◌≤◌, false};
 ghost use Rattle.cg_meaning.specs.Tree.{count, count_all};
 ghost use Rattle.cg_model.specs.Node.{tree_of, trees_of};
 ghost use Rattle.cg_part.specs.Spans.{has_boundary, open_events, open_in_all, open_in_sequence};
-ghost use Rattle.cg_up.specs.Member.{is_boundary, open_member, trees_from};
+ghost use Rattle.cg_model.specs.Member.{is_boundary, trees_from};
+ghost use Rattle.cg_up.specs.Member.{open_member};
 
 use cg_model::{Members, Node};
 
