@@ -8,10 +8,11 @@ use Rattle.cg_meaning.specs.Order.{is_sequence}
 use Rattle.cg_model.specs.Found.{has_name}
 use Rattle.cg_model.specs.Limits.{HoldsBoundaries, IsInPlace, AreInPlace, IsInRange, AreInRange}
 use Rattle.cg_model.specs.Node.{trees_with}
+use Rattle.cg_model.proofs.FoundLemmas.{named}
 use Rattle.cg_model.proofs.PlaceLemmas.{All-left, All-right}
 use Rattle.cg_model.proofs.PushLemmas.{AreInPlace-trees_with, AreInRange-trees_with}
 use Rattle.cg_sharing.specs.Journal.{IsInOrder}
-use Rattle.cg_sharing.specs.Edit.{Edit, Set, Add, InsertBefore, Drop, Rename, a_group, target_of, dated, dated_all, extended, extended_all, preceded, preceded_all, without, without_all, renamed, renamed_all, edited, or_else, misplaced_in, misplaced_in_all, misplaced_under, parent_below, parent_in, wrong_kind, named}
+use Rattle.cg_sharing.specs.Edit.{Edit, Set, Add, InsertBefore, Drop, Rename, a_group, target_of, dated, dated_all, extended, extended_all, preceded, preceded_all, without, without_all, renamed, renamed_all, edited, or_else, misplaced_in, misplaced_in_all, misplaced_under, parent_below, parent_in, wrong_kind}
 use Rattle.cg_edit.proofs.NamedLemmas.{held, Here, Below, Behind, at, nowhere, preceded-other, preceded_all-other}
 
 -- a new dating keeps places
