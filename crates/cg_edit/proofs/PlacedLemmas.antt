@@ -3,7 +3,7 @@ use Rattle.std.proofs.Common.{◌≡◌, Bool, true, false, cond, [], ◌∷◌,
 use Rattle.std.specs.Prelude.{bytes_eq, All, option_map}
 use Rattle.std.specs.List.{filter}
 use Rattle.std.proofs.lemmas.List.Elements.{All-nil, All-cons, All-head, All-append, filter-append}
-use Rattle.cg_meaning.specs.Tree.{Name, Dating, Tree, Leaf, Boundary, Group, Trees, none, more, Kind, Sequence, Phase, After, Before, datings_of, datings_of_all, nodes_of, nodes_of_all}
+use Rattle.cg_meaning.specs.Tree.{Name, Dating, Tree, Leaf, Boundary, Group, Trees, none, more, Kind, Phase, datings_of, datings_of_all, nodes_of, nodes_of_all}
 use Rattle.cg_meaning.specs.Order.{is_sequence}
 use Rattle.cg_model.specs.Found.{has_name}
 use Rattle.cg_model.specs.Limits.{HoldsBoundaries, IsInPlace, AreInPlace, IsInRange, AreInRange}
@@ -65,10 +65,7 @@ mutual
 
 -- no Boundary stands out of place
 sequence_holds : (parent : Kind) → (cond (is_sequence parent) None (Some parent)) ≡ None → HoldsBoundaries parent
-sequence_holds Sequence is = tt
-sequence_holds Phase is = absurd (cc)
-sequence_holds After is = absurd (cc)
-sequence_holds Before is = absurd (cc)
+sequence_holds parent is = elim (is_sequence parent) as (λ b. cond b None (Some parent) ≡ None → b ≡ true) [ true ↦ λ h. refl | false ↦ λ h. absurd (cc) ] is
 
 neither : (first second : Option Kind) → or_else first second ≡ None → (first ≡ None) × (second ≡ None)
 neither None second is = (refl, is)
