@@ -6,7 +6,8 @@ use Rattle.std.proofs.lemmas.List.Elements.{filter-append}
 use Rattle.cg_meaning.specs.Tree.{Name, Dating, Tree, Leaf, Boundary, Group, Trees, none, more, nodes_of, nodes_of_all}
 use Rattle.cg_model.specs.Found.{has_name}
 use Rattle.cg_model.specs.Node.{trees_with}
-use Rattle.cg_sharing.specs.Edit.{named, dated, dated_all, extended, extended_all, preceded, preceded_all, without, without_all, renamed, renamed_all}
+use Rattle.cg_model.proofs.FoundLemmas.{named}
+use Rattle.cg_sharing.specs.Edit.{dated, dated_all, extended, extended_all, preceded, preceded_all, without, without_all, renamed, renamed_all}
 
 -- one element in two lists
 pub one_of : (xs ys : List Tree) (t : Tree) → xs ++ ys ≡ t ∷ [] → ((xs ≡ t ∷ []) × (ys ≡ [])) ⊎ ((xs ≡ []) × (ys ≡ t ∷ []))

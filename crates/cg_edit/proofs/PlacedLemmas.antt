@@ -3,15 +3,16 @@ use Rattle.std.proofs.Common.{◌≡◌, Bool, true, false, cond, [], ◌∷◌,
 use Rattle.std.specs.Prelude.{bytes_eq, All, option_map}
 use Rattle.std.specs.List.{filter}
 use Rattle.std.proofs.lemmas.List.Elements.{All-nil, All-cons, All-head, All-append, filter-append}
-use Rattle.cg_meaning.specs.Tree.{Name, Dating, Tree, Leaf, Boundary, Group, Trees, none, more, Kind, Sequence, Phase, After, Before, datings_of, datings_of_all, nodes_of, nodes_of_all}
+use Rattle.cg_meaning.specs.Tree.{Name, Dating, Tree, Leaf, Boundary, Group, Trees, none, more, Kind, Phase, datings_of, datings_of_all, nodes_of, nodes_of_all}
 use Rattle.cg_meaning.specs.Order.{is_sequence}
 use Rattle.cg_model.specs.Found.{has_name}
 use Rattle.cg_model.specs.Limits.{HoldsBoundaries, IsInPlace, AreInPlace, IsInRange, AreInRange}
 use Rattle.cg_model.specs.Node.{trees_with}
+use Rattle.cg_model.proofs.FoundLemmas.{named}
 use Rattle.cg_model.proofs.PlaceLemmas.{All-left, All-right}
 use Rattle.cg_model.proofs.PushLemmas.{AreInPlace-trees_with, AreInRange-trees_with}
 use Rattle.cg_sharing.specs.Journal.{IsInOrder}
-use Rattle.cg_sharing.specs.Edit.{Edit, Set, Add, InsertBefore, Drop, Rename, a_group, target_of, dated, dated_all, extended, extended_all, preceded, preceded_all, without, without_all, renamed, renamed_all, edited, or_else, misplaced_in, misplaced_in_all, misplaced_under, parent_below, parent_in, wrong_kind, named}
+use Rattle.cg_sharing.specs.Edit.{Edit, Set, Add, InsertBefore, Drop, Rename, a_group, target_of, dated, dated_all, extended, extended_all, preceded, preceded_all, without, without_all, renamed, renamed_all, edited, or_else, misplaced_in, misplaced_in_all, misplaced_under, parent_below, parent_in, wrong_kind}
 use Rattle.cg_edit.proofs.NamedLemmas.{held, Here, Below, Behind, at, nowhere, preceded-other, preceded_all-other}
 
 -- a new dating keeps places
@@ -64,10 +65,7 @@ mutual
 
 -- no Boundary stands out of place
 sequence_holds : (parent : Kind) → (cond (is_sequence parent) None (Some parent)) ≡ None → HoldsBoundaries parent
-sequence_holds Sequence is = tt
-sequence_holds Phase is = absurd (cc)
-sequence_holds After is = absurd (cc)
-sequence_holds Before is = absurd (cc)
+sequence_holds parent is = elim (is_sequence parent) as (λ b. cond b None (Some parent) ≡ None → b ≡ true) [ true ↦ λ h. refl | false ↦ λ h. absurd (cc) ] is
 
 neither : (first second : Option Kind) → or_else first second ≡ None → (first ≡ None) × (second ≡ None)
 neither None second is = (refl, is)

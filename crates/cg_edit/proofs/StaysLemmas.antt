@@ -8,7 +8,8 @@ use Rattle.std.proofs.lemmas.Slice.Eq.{bytes_eq-Decides}
 use Rattle.cg_meaning.specs.Tree.{Name, Dating, Kind, Tree, Leaf, Boundary, Group, Trees, none, more, nodes_of, nodes_of_all, name_of}
 use Rattle.cg_model.specs.Found.{has_name}
 use Rattle.cg_model.specs.Node.{trees_with}
-use Rattle.cg_sharing.specs.Edit.{Set, Add, InsertBefore, Drop, Rename, named, dated, dated_all, extended, extended_all, preceded, preceded_all, without, without_all, renamed, renamed_all, wrong_kind}
+use Rattle.cg_sharing.specs.Edit.{Set, Add, InsertBefore, Drop, Rename, dated, dated_all, extended, extended_all, preceded, preceded_all, without, without_all, renamed, renamed_all, wrong_kind}
+use Rattle.cg_model.proofs.FoundLemmas.{named}
 use Rattle.cg_sharing.proofs.EditLemmas.{accepted}
 use Rattle.cg_edit.proofs.NamedLemmas.{held, Here, Below, Behind, at, one_of, dated-other, dated_all-other, extended-other, extended_all-other, preceded-other, preceded_all-other, without-other, without_all-other, renamed-other, renamed_all-other, found-called}
 use Rattle.cg_edit.specs.Stays.{Mark, Opens, Closes, text_of, text_of_all, IsOnlyChange, with_name, ElseStays, AllElseStays}

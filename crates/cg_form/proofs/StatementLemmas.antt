@@ -88,9 +88,9 @@ unfolding boundary_at
 boundary-append Sequence name rest good h =
     let named : text_at (quoted name ++ (codes ");" ++ rest)) ≡ Some (name, codes ");" ++ rest) = text-append name (codes ");" ++ rest) good in
     ap (boundary_at Sequence) (boundary-parts (quoted name) rest) ∙ rw named refl
-boundary-append Phase name rest good h = absurd h
-boundary-append After name rest good h = absurd h
-boundary-append Before name rest good h = absurd h
+boundary-append Phase name rest good h = absurd (cc)
+boundary-append After name rest good h = absurd (cc)
+boundary-append Before name rest good h = absurd (cc)
 
 -- what was read is a Boundary in a Sequence
 pub boundary-is : (depth : ℕ) (parent : Kind) (bytes : List ℕ) (t : Tree) (rest : List ℕ) → boundary_at parent bytes ≡ Some (t, rest) → IsStatementAt (suc depth) parent bytes t rest
@@ -105,7 +105,7 @@ boundary-is depth Sequence bytes t rest h =
     let begins : bytes ≡ codes "Boundary(" ++ behind = after-is (codes "Boundary(") bytes behind word in
     subst₂ (IsStatementAt (suc depth) Sequence bytes) pair.0 pair.1 (record {
       written = text.0;
-      placed = tt;
+      placed = refl;
       deep = omega arith;
       form = begins ∙ ap (λ x. codes "Boundary(" ++ x) (text.1 ∙ ap (λ x. quoted name ++ x) ends) ∙ sym (boundary-parts (quoted name) others);
     }))))

@@ -3,7 +3,8 @@ use Rattle.std.specs.Prelude.{◌≡◌, ◌⊎◌, List, [], ◌∷◌, ◌++�
 use Rattle.std.specs.Fmt.{signed_decimal}
 use Rattle.cg_num.specs.Year.{IsYear}
 use Rattle.cg_num.specs.Written.{decimal_text}
-use Rattle.cg_meaning.specs.Tree.{Dating, Free, Exact, Normal, Carbon, Kind, Sequence, Phase, After, Before, Name, Tree, Leaf, Boundary, Group, Trees, none, more, Chronology}
+use Rattle.cg_meaning.specs.Tree.{Dating, Free, Exact, Normal, Carbon, Sequence, Name, Tree, Leaf, Boundary, Group, Trees, none, more, Chronology}
+pub use Rattle.cg_model.specs.Group.{word_of_kind}
 use Rattle.cg_model.specs.Limits as limits
 use Rattle.cg_text.specs.Text.{IsText, IsTitle, quoted, IsEnd}
 
@@ -47,12 +48,6 @@ nameless dating = word_of dating ++ codes "(" ++ values_text dating ++ codes ");
 abbrev pub title : Name → List ℕ
 title [] = []
 title (c ∷ cs) = quoted (c ∷ cs)
-
-abbrev pub word_of_kind : Kind → List ℕ
-word_of_kind Sequence = codes "Sequence"
-word_of_kind Phase = codes "Phase"
-word_of_kind After = codes "After"
-word_of_kind Before = codes "Before"
 
 -- names are texts, and a statement may say its dating
 abbrev mutual

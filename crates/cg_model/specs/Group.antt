@@ -1,4 +1,5 @@
--- What the kind of a group means.
+-- What the kind of a group means, and its word.
+use Rattle.std.specs.Prelude.{List, ℕ, codes}
 use Rattle.cg_meaning.specs.Tree as spec
 use Rattle.cg_model.specs.declared.group.GroupKind.{GroupKind}
 use Rattle.cg_model.specs.declared.group.GroupKind.TheVariants as kind
@@ -18,3 +19,10 @@ group_of kind.Sequence name members = roll-Node (Sequence name members)
 group_of kind.Phase name members = roll-Node (Phase name members)
 group_of kind.After name members = roll-Node (After name members)
 group_of kind.Before name members = roll-Node (Before name members)
+
+-- the word for a group of this kind, in a model file and in a transcript
+abbrev pub word_of_kind : spec.Kind → List ℕ
+word_of_kind spec.Sequence = codes "Sequence"
+word_of_kind spec.Phase = codes "Phase"
+word_of_kind spec.After = codes "After"
+word_of_kind spec.Before = codes "Before"

@@ -1,8 +1,9 @@
 -- The limits of a model: how many events and groups it has and how deep they stand, where a Boundary may stand, and
 -- the ranges of its values. chron's own.
-use Rattle.std.specs.Prelude.{ℕ, ◌+◌, ◌≤◌, max, ℤ, pos, negsuc, ◌≤ℤ◌, All}
-use Rattle.cg_meaning.specs.Tree.{Tree, Leaf, Boundary, Group, Trees, none, more, Kind, Sequence, Phase, After, Before}
+use Rattle.std.specs.Prelude.{ℕ, ◌+◌, ◌≤◌, max, ℤ, pos, negsuc, ◌≤ℤ◌, All, IsTrue}
+use Rattle.cg_meaning.specs.Tree.{Tree, Leaf, Boundary, Group, Trees, none, more, Kind, Phase}
 use Rattle.cg_meaning.specs.Tree.{Dating, Free, Exact, Normal, Carbon, count_all, datings_of_all}
+use Rattle.cg_meaning.specs.Order.{is_sequence}
 use Rattle.cg_num.specs.Year.{IsYear}
 
 -- how many groups it has, itself included
@@ -33,12 +34,9 @@ pub record IsWithinLimits (ts : Trees) : Type 0 where
   pub groups : groups_in ts ≤ 60
   pub depth : depth_in ts ≤ 16
 
--- whether a Boundary may be a direct member of a group of this kind
+-- a Boundary may be a direct member of a group of this kind
 abbrev pub HoldsBoundaries : Kind → Type 0
-HoldsBoundaries Sequence = Unit {0}
-HoldsBoundaries Phase = ⊥
-HoldsBoundaries After = ⊥
-HoldsBoundaries Before = ⊥
+HoldsBoundaries kind = IsTrue (is_sequence kind)
 
 -- as a member of a group of this kind, and below it, each Boundary stands directly in a Sequence
 abbrev mutual

@@ -1,10 +1,12 @@
 -- Changes of a model's statements: what each makes of them, and why it is refused. chron's own.
-use Rattle.std.specs.Prelude.{ℕ, nat_lt, List, [], ◌∷◌, length, bytes_eq, Option, Some, None, option_map, Result, Ok, Err, if◌then◌else◌}
-use Rattle.std.specs.List.{filter}
-use Rattle.cg_meaning.specs.Tree.{Name, Dating, Tree, Leaf, Boundary, Group, Trees, none, more, Kind, Phase, count_all, nodes_of_all, name_of}
+use Rattle.std.specs.Prelude.{ℕ, nat_lt, slice_get, bytes_eq, Option, Some, None, option_map, Result, Ok, Err, if◌then◌else◌}
+use Rattle.cg_meaning.specs.Tree.{Name, Dating, Tree, Leaf, Boundary, Group, Trees, none, more, Kind, Phase, count_all, nodes_of_all}
 use Rattle.cg_meaning.specs.Order.{is_sequence}
+use Rattle.cg_model.specs.Found.{has_name, found_in}
 use Rattle.cg_model.specs.Node.{trees_with}
 use Rattle.cg_model.specs.Limits.{groups_in, depth_in}
+use Rattle.cg_model.specs.declared.find.Found.{Found}
+use Rattle.cg_model.specs.declared.find.Found.TheVariants.{Nobody, One, Many}
 use Rattle.cg_model.specs.declared.model.Limit.{Limit}
 use Rattle.cg_model.specs.declared.model.Limit.TheVariants.{Events, Groups, Depth}
 
@@ -77,7 +79,7 @@ abbrev mutual
   preceded_all name node none = none
   preceded_all name node (more t ts) =
       let rest = more (preceded name node t) (preceded_all name node ts) in
-      if bytes_eq (name_of t) name then more node rest else rest
+      if has_name name t then more node rest else rest
 
 -- each node of this name is gone with all that it holds, and all else stays
 abbrev mutual
@@ -88,7 +90,7 @@ abbrev mutual
 
   pub without_all : Name → Trees → Trees
   without_all name none = none
-  without_all name (more t ts) = if bytes_eq (name_of t) name then without_all name ts else more (without name t) (without_all name ts)
+  without_all name (more t ts) = if has_name name t then without_all name ts else more (without name t) (without_all name ts)
 
 -- the new name in place of this one
 abbrev pub new_name : Name → Name → Name → Name
@@ -139,7 +141,7 @@ abbrev mutual
   pub parent_in : Name → Kind → Trees → Option Kind
   parent_in name kind none = None
   parent_in name kind (more t ts) =
-      if bytes_eq (name_of t) name then Some kind else or_else (parent_below name t) (parent_in name kind ts)
+      if has_name name t then Some kind else or_else (parent_below name t) (parent_in name kind ts)
 
 -- the group in which a Boundary would stand out of place, were the node a member of a group of this kind
 abbrev pub misplaced_under : Option Kind → Tree → Option NodeKind
@@ -184,16 +186,17 @@ abbrev pub checked : Option NodeKind → Trees → Result Trees EditFault
 checked (Some kind) ts = Err (WrongKind kind)
 checked None ts = within (limit_passed ts) ts
 
--- the nodes of this name
-abbrev pub named : Name → Trees → List Tree
-named name ts = filter (λ t. bytes_eq (name_of t) name) (nodes_of_all ts)
+-- the statements after a change of the node at a place, or why it is refused
+abbrev pub changed_at : Option Tree → Edit → Trees → Result Trees EditFault
+changed_at None edit ts = Err NoName
+changed_at (Some node) edit ts = checked (wrong_kind edit node ts) (edited edit ts)
 
--- the statements after a change, or why it is refused, where these nodes have the name
-abbrev pub result_for : List Tree → Edit → Trees → Result Trees EditFault
-result_for [] edit ts = Err NoName
-result_for (node ∷ []) edit ts = checked (wrong_kind edit node ts) (edited edit ts)
-result_for (node ∷ next ∷ others) edit ts = Err (Ambiguous (length (node ∷ next ∷ others)))
+-- the statements after a change, or why it is refused, by what the search for its name finds
+abbrev pub result_for : Found → Edit → Trees → Result Trees EditFault
+result_for Nobody edit ts = Err NoName
+result_for (One place) edit ts = changed_at (slice_get (nodes_of_all ts) place) edit ts
+result_for (Many count) edit ts = Err (Ambiguous count)
 
 -- the statements after a change, or why it is refused
 unfoldable pub result_of : Edit → Trees → Result Trees EditFault
-result_of edit ts = result_for (named (target_of edit) ts) edit ts
+result_of edit ts = result_for (found_in (target_of edit) (nodes_of_all ts)) edit ts

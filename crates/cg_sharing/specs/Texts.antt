@@ -2,10 +2,11 @@
 use Rattle.std.specs.Prelude.{ℕ, ◌+◌, ◌-◌, List, [], ◌∷◌, ◌++◌, codes, decimal, Option, Some, None, ℤ}
 use Rattle.std.specs.Fmt.{signed_decimal}
 use Rattle.cg_num.specs.Label.{label_of}
-use Rattle.cg_meaning.specs.Tree.{Name, Kind, Sequence, Phase, After, Before}
+use Rattle.cg_meaning.specs.Tree.{Name}
 use Rattle.cg_meaning.specs.Scene.{Grid, year_of}
 use Rattle.cg_meaning.specs.Cover as cover
 use Rattle.cg_meaning.specs.Cover.{CoverFault}
+use Rattle.cg_model.specs.Group.{word_of_kind}
 use Rattle.cg_model.specs.declared.model.Limit.{Limit}
 use Rattle.cg_model.specs.declared.model.Limit.TheVariants.{Events, Groups, Depth}
 use Rattle.cg_sharing.specs.Edit.{NodeKind, a_leaf, a_boundary, a_group, EditFault, NoName, Ambiguous, WrongKind, Past}
@@ -28,16 +29,10 @@ line text = text ++ (10 ∷ [])
 abbrev pub version_text : ℕ → List ℕ
 version_text version = codes "v" ++ decimal version
 
-abbrev pub group_text : Kind → List ℕ
-group_text Sequence = codes "Sequence"
-group_text Phase = codes "Phase"
-group_text After = codes "After"
-group_text Before = codes "Before"
-
 abbrev pub kind_text : NodeKind → List ℕ
 kind_text a_leaf = codes "Leaf"
 kind_text a_boundary = codes "Boundary"
-kind_text (a_group kind) = group_text kind
+kind_text (a_group kind) = word_of_kind kind
 
 abbrev pub limit_text : Limit → List ℕ
 limit_text Events = codes "limit events"

@@ -1,4 +1,4 @@
-use Rattle.std.proofs.Common.{[], ◌∷◌, ◌++◌}
+use Rattle.std.proofs.Common.{[], ◌∷◌, ◌++◌, refl}
 use Rattle.std.proofs.lemmas.List.Elements.{All-nil, All-cons, All-append}
 use Rattle.cg_meaning.specs.Tree.{Free, datings_of_all}
 use Rattle.cg_model.specs.Limits.{IsInRange}
@@ -9,7 +9,7 @@ use Rattle.cg_model.proofs.tests.spanned.Goals as goal
 pub returns-clause-placed : goal.returns-clause-placed
 returns-clause-placed c =
     simp (c.in_ok-push-3.ensures.trees, c.in_ok-push-2.ensures.trees, c.in_ok-push.ensures.trees, c.new-members.ensures.trees, tree_of-Boundary, tree_of-Phase)
-    (tt, (c.in_ok-phase.ensures.placed, (tt, tt)))
+    (refl, (c.in_ok-phase.ensures.placed, (refl, tt)))
 
 pub returns-clause-ranged : goal.returns-clause-ranged
 returns-clause-ranged c =
