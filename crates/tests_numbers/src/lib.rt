@@ -8,6 +8,8 @@ mod ends;
 #[cfg(test)]
 mod exponentials;
 #[cfg(test)]
+mod grids;
+#[cfg(test)]
 mod likelihoods;
 #[cfg(test)]
 mod marginals;

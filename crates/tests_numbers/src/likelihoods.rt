@@ -5,17 +5,14 @@ ghost use Rattle.cg_model.specs.Limits.{IsInRange};
 mod cases;
 
 use crate::ends::{Ends, ends};
+use crate::grids::{grid, year};
 use cases::{COVERED, Given, WEIGHED, Want};
 use cg_curve::{Curve, read_curve};
 use cg_like::{LikeFault, covers, weights};
 use cg_model::{Dating, Grid};
-use cg_num::{Decimal, Year};
+use cg_num::Decimal;
 use std::alloc::Global;
 use std::test::Fail;
-
-fn year(bp: i64) -> Result<Year, Fail> {
-    Ok(Year::of_bp(bp).ok_or("no year")?)
-}
 
 fn decimal(thousandths: i64) -> Result<Decimal, Fail> {
     Ok(Decimal::of_thousandths(thousandths).ok_or("no decimal")?)
@@ -28,11 +25,6 @@ fn dating(given: Given) -> Result<Dating, Fail> {
         Given::Normal(at, error) => Ok(Dating::Normal(year(at)?, decimal(error)?)),
         Given::Carbon(age, error) => Ok(Dating::Carbon(decimal(age)?, decimal(error)?)),
     }
-}
-
-fn grid(years: (i64, i64)) -> Result<Grid, Fail> {
-    let (older, younger) = years;
-    Ok(Grid::new(year(older)?, year(younger)?)?)
 }
 
 fn curve(alloc: Global, text: &[u8]) -> Result<Option<Curve>, Fail> {

@@ -4,11 +4,10 @@ mod cases;
 mod plan;
 mod plans;
 
+use crate::grids::grid;
 use cases::{Case, GROUPS_IN_SPANS, ONE_SIDED_GROUPS, ORDER, SEVERAL_SPANS, SPANS};
 use cg_curve::Curves;
 use cg_marginal::Marginal;
-use cg_model::Grid;
-use cg_num::Year;
 use cg_table::Steps;
 use cg_up::evaluate;
 use plan::model_of;
@@ -17,12 +16,6 @@ use std::marker::Brand;
 use std::process::Abort;
 use std::sync::ledger::{Blank, Ledger};
 use std::test::Fail;
-
-fn grid(years: (i32, i32)) -> Result<Grid, Fail> {
-    let older = Year::of_bp(years.0 as i64).ok_or("no year")?;
-    let younger = Year::of_bp(years.1 as i64).ok_or("no year")?;
-    Ok(Grid::new(older, younger)?)
-}
 
 // The parts in parts per million: each is between whole numbers, or is one.
 fn assert_parts(rt: &impl Abort, marginal: &Marginal, parts: &[u32], whole: u32, name: &str) {

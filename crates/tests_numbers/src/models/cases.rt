@@ -7,7 +7,7 @@ use super::plans::*;
 pub(super) type Case = (
     &'static str,
     &'static [Plan<'static>],
-    (i32, i32),
+    (i64, i64),
     &'static [(u32, u32, &'static [u32])],
 );
 
