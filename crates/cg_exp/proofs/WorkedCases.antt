@@ -1,4 +1,4 @@
--- The recipe, computed by its definitions on arguments that are worked out by `bench/exponential_cases.py`.
+-- The recipe, computed by its definitions on arguments that are worked out by `cases/exponential_cases.py`.
 use Rattle.std.proofs.Common.{◌≡◌, negsuc, refl}
 use Rattle.cg_enc.specs.Rounding.{least, left, norm}
 use Rattle.cg_exp.specs.Exponential.{halvings, reduced_below, reduced_above, horner_after, start, squared, halved, exp_neg_of}

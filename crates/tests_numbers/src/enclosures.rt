@@ -1,4 +1,4 @@
-//! Cases at the edges of the rounding rules, worked out from them by `bench/enclosure_cases.py`.
+//! Cases at the edges of the rounding rules, worked out from them by `cases/enclosure_cases.py`.
 use crate::ends::{Ends, FAR, FULL, HALF, enc, ends};
 use cg_enc::Enc;
 

@@ -1,4 +1,4 @@
-//! Cases worked out from the rules of the recipe by `bench/exponential_cases.py`.
+//! Cases worked out from the rules of the recipe by `cases/exponential_cases.py`.
 use crate::ends::{Ends, ends};
 use cg_exp::exp_neg;
 

@@ -1,4 +1,4 @@
-//! Rows and their pairs, worked out from the rules by `bench/marginal_cases.py`.
+//! Rows and their pairs, worked out from the rules by `cases/marginal_cases.py`.
 use crate::ends::{Ends, FULL, HALF, enc};
 use cg_marginal::{Marginal, finish};
 use cg_table::Row;

@@ -1,4 +1,4 @@
-//! Tables of three cells: the expected entries are of `bench/table_cases.py`.
+//! Tables of three cells: the expected entries are of `cases/table_cases.py`.
 ghost use Rattle.std.specs.Prelude.{◌≡◌, ◌<◌, IfOk, length};
 ghost use Rattle.cg_table.specs.Losses.{greatest_reach};
 ghost use Rattle.cg_table.specs.Table.{table_reach};

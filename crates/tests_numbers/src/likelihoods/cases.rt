@@ -1,4 +1,4 @@
-//! Cases worked out from the rules of the recipe by `bench/likelihood_cases.py`.
+//! Cases worked out from the rules of the recipe by `cases/likelihood_cases.py`.
 use crate::ends::Ends;
 
 // A dating in a table: years, and thousandths of a year.

@@ -1,4 +1,4 @@
-//! Cases worked out by listing every dating, by `bench/listing_cases.py`.
+//! Cases worked out by listing every dating, by `cases/listing_cases.py`.
 use super::plan::Plan;
 use super::plans::*;
 
