@@ -11,7 +11,7 @@ use std::alloc::Global;
 use std::marker::Model;
 use std::snapshot::Snapshot;
 
-/// Versions of models, and the journal of all events.
+/// Versions of models, and the journal of all acts.
 #[derive(Drop)]
 pub struct Book {
     versions: Versions,
@@ -51,8 +51,8 @@ impl Book {
         })
     }
 
-    /// One event of a seat: the reply that the versions give now, and one entry at the end of the journal. Want of
-    /// memory leaves all as it was, without an entry. Each version that an event names is known, but for `Take`, and the
+    /// One act of a seat: the reply that the versions give now, and one entry at the end of the journal. Want of
+    /// memory leaves all as it was, without an entry. Each version that an act names is known, but for `Take`, and the
     /// values that a change brings are in their ranges.
     pub fn apply(&mut self, alloc: Global, seat: u32, event: Event) -> Reply
         requires { May (state_of self.old) (asked event) }
@@ -86,7 +86,7 @@ impl Book {
         let _ = &self.journal;
     }
 
-    /// The journal of all events.
+    /// The journal of all acts.
     pub fn into_journal(self) -> Journal
         ensures journal { result ≡ self.journal }
         ensures legal { IsLegal self.start result }

@@ -8,7 +8,7 @@ use cg_num::NoMemory;
 use std::alloc::Global;
 use std::marker::Model;
 
-/// An event in plain form.
+/// What a session asks of the book.
 #[derive(Drop)]
 pub enum Act {
     /// The version that a model's name stands for.
@@ -24,7 +24,7 @@ pub enum Act {
 }
 
 impl Act {
-    // what an event asks
+    // the act that an event asks for
     pub(crate) fn of(event: Event) -> Act
         ensures { act_in result ≡ asked event }
     {
@@ -89,7 +89,7 @@ pub struct Entry {
     pub answer: Answer,
 }
 
-/// All events of a book in their order.
+/// All acts and answers of a book in their order.
 #[derive(Drop)]
 pub struct Journal {
     entries: Vec<Entry>,
@@ -135,7 +135,7 @@ impl Journal {
         Journal { entries }
     }
 
-    /// The entries, the first event first. Takes no memory.
+    /// The entries, the first act first. Takes no memory.
     pub fn entries(&self) -> &[Entry]
         ensures { map entry_in result.now ≡ self.now }
     {

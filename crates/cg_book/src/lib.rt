@@ -1,6 +1,6 @@
-//! The book that all sessions share: versions of models, and the journal of all events.
+//! The book that all sessions share: versions of models, and the journal of all acts.
 //!
-//! An event is answered by the versions as they are, and is one entry more in the journal, refusals too. So the journal
+//! An act is answered by the versions as they are, and is one entry more in the journal, refusals too. So the journal
 //! is legal: each answer is the one that the start models and the entries before it give.
 #![tactic(auto)]
 

@@ -1,4 +1,4 @@
-//! What versions reply to an event.
+//! What versions reply to an act.
 ghost use Rattle.std.specs.Prelude.{◌≡◌};
 ghost use Rattle.cg_sharing.specs.Journal.{May, Head, Take, Undo, Change, Commit};
 ghost use Rattle.cg_edit.specs.Plain.{edit_in};

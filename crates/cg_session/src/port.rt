@@ -1,8 +1,8 @@
 use cg_book::{Book, Event, Reply};
 use std::alloc::Global;
 
-/// The way to a book for one seat: an event, and its reply. A port tells its seat, and what this seat has seen of the
-/// book: the versions at the start, and the journal as it was at the seat's last event.
+/// The way to a book for one seat: an act, and its reply. A port tells its seat, and what this seat has seen of the
+/// book: the versions at the start, and the journal as it was at the seat's last act.
 pub trait Port {
     ghost use Rattle.std.specs.Prelude.{◌≡◌, ℕ};
     ghost use Rattle.cg_sharing.specs.Journal.{IsLegal, May};
@@ -19,7 +19,7 @@ pub trait Port {
     // the name of the reference that it holds
     ghost lent: { Self → ℕ };
 
-    /// One event. The reply is the answer of the seat's new entry, which stands behind those that other seats made
+    /// One act. The reply is the answer of the seat's new entry, which stands behind those that other seats made
     /// meanwhile. Want of memory makes no entry.
     fn event(&mut self, alloc: Global, event: Event) -> Reply
         requires legal { IsLegal (seen self.old).start (seen self.old).journal }

@@ -21,15 +21,15 @@ use std::sync::ledger::Ledger;
 /// How far a call of `advance` came.
 #[derive(Clone, Copy, Debug, PartialEq, Eq)]
 pub enum Progress {
-    /// It made one event.
+    /// It made one act.
     Moved,
-    /// The script is done. No event was made.
+    /// The script is done. No act was made.
     Ended,
-    /// Want of memory stopped the session. No event was made.
+    /// Want of memory stopped the session. No act was made.
     Stopped,
 }
 
-// An event to be made, with a spare name for its answer.
+// An act to be made, with a spare name for its answer.
 #[derive(Drop)]
 pub(crate) struct Asked {
     pub event: Event,
@@ -75,7 +75,7 @@ impl Session {
         })
     }
 
-    // Does the commands up to the next event, and prepares that event, if there is one.
+    // Does the commands up to the next act, and prepares that act, if there is one.
     fn prepare<L: Ledger>(
         &mut self,
         alloc: Global,
@@ -107,7 +107,7 @@ impl Session {
         Ok(None)
     }
 
-    // Takes the answer to the event of the next line.
+    // Takes the answer to the act of the next line.
     fn settle(&mut self, spare: Option<Name>, reply: Reply) -> Progress
         requires within { self.old.done < length self.old.script }
         requires few { length self.old.script ≤ 1000 }
@@ -132,8 +132,8 @@ impl Session {
         }
     }
 
-    /// Goes on until one event is made, the script is done or want of memory has stopped the session. `Ended` and
-    /// `Stopped` make no event, and repeat.
+    /// Goes on until one act is made, the script is done or want of memory has stopped the session. `Ended` and
+    /// `Stopped` make no act, and repeat.
     ///
     /// The first of the curves serves all radiocarbon dates. Each product of two enclosures in a print's tables is a step.
     pub fn advance<Q: Port, L: Ledger>(

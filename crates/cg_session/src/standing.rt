@@ -99,7 +99,7 @@ impl Standing {
     ghost use Rattle.cg_session.specs.Steps.{ticks_in, prints_at};
     ghost use Rattle.cg_session.specs.Transcript.{HasRoom};
 
-    /// The event of a command, if it makes one here.
+    /// The act of a command, if it makes one here.
     pub fn event(&self, alloc: Global, command: &Command) -> Result<Option<Event>, NoMemory>
         ensures { IfOk result (λ event. (place : Place) → Shows self.now place → option_map asked event ≡ act_of place (command_in command.now)) }
     {
@@ -140,7 +140,7 @@ impl Standing {
         Ok(())
     }
 
-    /// Does a command that makes no event. Without memory all stays.
+    /// Does a command that makes no act. Without memory all stays.
     pub fn run<L: Ledger>(
         &mut self,
         alloc: Global,
@@ -229,7 +229,7 @@ impl Standing {
         Ok(())
     }
 
-    /// Takes the answer to a command's event, and says whether there was one: want of memory is none, and then all
+    /// Takes the answer to a command's act, and says whether there was one: want of memory is none, and then all
     /// stays. Takes no memory.
     pub fn answer(&mut self, line: u32, spare: Option<Name>, reply: Reply) -> bool
         requires line { HasRoom self.old.transcript 64 }
