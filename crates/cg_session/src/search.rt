@@ -2,11 +2,9 @@
 ghost use Rattle.std.specs.Prelude.{◌≡◌, ◌≢◌, ◌<◌, [], IfOk, IfErr, Ok, Err};
 ghost use Rattle.cg_meaning.specs.Tree.{count_all, root_of};
 ghost use Rattle.cg_meaning.specs.Cover.{AreCovered};
-ghost use Rattle.cg_model.specs.Node.{tree_of};
-ghost use Rattle.cg_sharing.specs.Edit.{EditFault, kind_of};
+ghost use Rattle.cg_sharing.specs.Edit.{EditFault};
 ghost use Rattle.cg_sharing.specs.Texts.{Fault};
 ghost use Rattle.cg_sharing.specs.Course.{event_of, event_in};
-ghost use Rattle.cg_edit.specs.Plain.{kind_in};
 ghost use Rattle.cg_session.specs.Cause.{cause_in};
 ghost use Rattle.cg_session.specs.Standing.{scene_in};
 
@@ -14,20 +12,7 @@ use crate::cause::Cause;
 use crate::cover::weigh_all;
 use cg_curve::Curves;
 use cg_edit::Kind;
-use cg_model::{Found, Grid, ModelTree, Name, Node};
-
-fn kind_of(node: &Node) -> Kind
-    ensures { kind_in result ≡ kind_of (tree_of node.now) }
-{
-    match node {
-        Node::Leaf(_, _) => Kind::Leaf,
-        Node::Boundary(_) => Kind::Boundary,
-        Node::Sequence(_, _) => Kind::Sequence,
-        Node::Phase(_, _) => Kind::Phase,
-        Node::After(_, _) => Kind::After,
-        Node::Before(_, _) => Kind::Before,
-    }
-}
+use cg_model::{Found, Grid, ModelTree, Name};
 
 // The number of the event of a name that isn't empty, counted from 0 in the order of the text. The cause is that no
 // node or several have the name, or that a group has it.
@@ -42,7 +27,7 @@ fn event_of(model: &ModelTree, name: &Name) -> Result<u32, Cause>
         Found::Many(count) => Err(Cause::Ambiguous(count)),
         Found::One(place) => match model.event_number(place) {
             Some(event) => Ok(event),
-            None => Err(Cause::WrongKind(kind_of(model.node(place)))),
+            None => Err(Cause::WrongKind(Kind::of(model.node(place)))),
         },
     }
 }

@@ -13,10 +13,10 @@ returns-in-Many-clause-err c = (Ambiguous c.in-Many.count, ap (λ f. event_found
 pub returns-in-None-clause-err : goal.returns-in-None-clause-err
 returns-in-None-clause-err c =
     let nodes = nodes_of_all c.args.model.now.top in (
-      WrongKind (kind_in c.kind_of.result),
+      WrongKind (kind_in c.of.result),
       ap (λ f. event_found nodes f) (sym c.in-One.ensures.found)
           ∙ ap (λ o. event_or (kind_at o) (number_at nodes c.in-One.place)) c.node.ensures.node
           ∙ ap (λ n. event_or (kind_of (tree_of c.node.result.now)) n) (sym c.in-None.ensures.number)
-          ∙ ap (λ k. event_or k None) (sym c.kind_of.ensures),
+          ∙ ap (λ k. event_or k None) (sym c.of.ensures),
       refl,
     )
