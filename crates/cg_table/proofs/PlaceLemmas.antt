@@ -7,7 +7,7 @@ use Rattle.std.proofs.lemmas.Bool.{cases_lt}
 use Rattle.std.proofs.Math.Nat.{mul-div_cancel, mul-le-mul}
 use lib.ListN.{get_or-append}
 use Rattle.cg_enc.specs.Enclosure.{Enclosure, exact_zero}
-use Rattle.cg_table.specs.Table.{Table, start, place, entry, row, rows, table}
+use Rattle.cg_table.specs.Table.{start, place, entry, row, rows, table}
 
 -- twice the start of row a, where m rows follow
 pub start_twice : (cells a m : ℕ) → a + m ≡ cells → 2 * start cells a ≡ a * (a + 2 * m + 1)
