@@ -1,8 +1,8 @@
 -- The counter beside what is printed.
-use Rattle.std.proofs.Common.{◌≡◌, ℕ, ◌+◌, ◌*◌, ◌≤◌, false, true, List, [], ◌∷◌, ◌++◌, length, take, drop, slice_get, refl, sym, ap, ap₂, subst, ◌∙◌, arith, append-nil, append_assoc, Option, Some, None, Result, Ok, Err, ℤ}
+use Rattle.std.proofs.Common.{◌≡◌, ℕ, ◌+◌, ◌*◌, ◌≤◌, false, List, [], ◌∷◌, ◌++◌, drop, slice_get, refl, sym, ap, ap₂, subst, ◌∙◌, arith, append-nil, append_assoc, Option, Some, None, Result, Ok, Err, ℤ}
 use Rattle.std.proofs.lemmas.List.Sums.{sum_by-append}
 use Rattle.std.proofs.lemmas.Option.{slice_get_within}
-use Rattle.std.specs.Prelude.{MatchOption, OnErr}
+use Rattle.std.specs.Prelude.{OnErr}
 use Rattle.cg_meaning.specs.Curve.{Curve}
 use Rattle.cg_meaning.specs.Tree.{Name, Chronology, root_of}
 use Rattle.cg_meaning.specs.Scene.{Grid, scene_of}
