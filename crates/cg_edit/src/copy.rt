@@ -1,12 +1,10 @@
 //! Copies of a tree in which the named node is changed.
 ghost use Rattle.std.specs.Prelude.{◌≡◌, IfOk};
-ghost use Rattle.cg_meaning.specs.Tree.{name_of};
 ghost use Rattle.cg_model.specs.Dating.{dating_of};
 ghost use Rattle.cg_model.specs.Node.{tree_of, trees_of, trees_with};
 ghost use Rattle.cg_sharing.specs.Edit.{dated, dated_all, extended, extended_all};
 
-use crate::named::has_name;
-use cg_model::{Dating, Members, Name, Node};
+use cg_model::{Dating, Members, Name, Node, View};
 use cg_num::NoMemory;
 use std::alloc::Global;
 
@@ -14,8 +12,8 @@ use std::alloc::Global;
 fn dated(alloc: Global, node: &Node, name: &Name, dating: Dating) -> Result<Node, NoMemory>
     ensures { IfOk result (λ after. tree_of after ≡ dated name.now (dating_of dating) (tree_of node.now)) }
 {
-    match node {
-        Node::Leaf(other, before) => {
+    match node.view() {
+        View::Leaf(other, before) => {
             let new = if other.text() == name.text() {
                 dating
             } else {
@@ -23,23 +21,11 @@ fn dated(alloc: Global, node: &Node, name: &Name, dating: Dating) -> Result<Node
             };
             Ok(Node::Leaf(other.copy(alloc)?, new))
         }
-        Node::Boundary(other) => Ok(Node::Boundary(other.copy(alloc)?)),
-        Node::Sequence(other, members) => Ok(Node::Sequence(
-            other.copy(alloc)?,
-            dated_all(alloc, members, name, dating)?,
-        )),
-        Node::Phase(other, members) => Ok(Node::Phase(
-            other.copy(alloc)?,
-            dated_all(alloc, members, name, dating)?,
-        )),
-        Node::After(other, members) => Ok(Node::After(
-            other.copy(alloc)?,
-            dated_all(alloc, members, name, dating)?,
-        )),
-        Node::Before(other, members) => Ok(Node::Before(
-            other.copy(alloc)?,
-            dated_all(alloc, members, name, dating)?,
-        )),
+        View::Boundary(other) => Ok(Node::Boundary(other.copy(alloc)?)),
+        View::Group(kind, other, members) => {
+            let after = dated_all(alloc, members, name, dating)?;
+            Ok(kind.node(other.copy(alloc)?, after))
+        }
     }
 }
 
@@ -64,27 +50,16 @@ pub(crate) fn dated_all(
 fn extended(alloc: Global, node: &Node, name: &Name, added: &Node) -> Result<Node, NoMemory>
     ensures { IfOk result (λ after. tree_of after ≡ extended name.now (tree_of added.now) (tree_of node.now)) }
 {
-    if has_name(node, name) {
-        return grown(alloc, node, added);
-    }
-    match node {
-        Node::Leaf(_, _) | Node::Boundary(_) => node.copy(alloc),
-        Node::Sequence(other, members) => Ok(Node::Sequence(
-            other.copy(alloc)?,
-            extended_all(alloc, members, name, added)?,
-        )),
-        Node::Phase(other, members) => Ok(Node::Phase(
-            other.copy(alloc)?,
-            extended_all(alloc, members, name, added)?,
-        )),
-        Node::After(other, members) => Ok(Node::After(
-            other.copy(alloc)?,
-            extended_all(alloc, members, name, added)?,
-        )),
-        Node::Before(other, members) => Ok(Node::Before(
-            other.copy(alloc)?,
-            extended_all(alloc, members, name, added)?,
-        )),
+    match node.view() {
+        View::Leaf(_, _) | View::Boundary(_) => node.copy(alloc),
+        View::Group(kind, other, members) if other.text() == name.text() => {
+            let after = longer(alloc, members, added)?;
+            Ok(kind.node(other.copy(alloc)?, after))
+        }
+        View::Group(kind, other, members) => {
+            let after = extended_all(alloc, members, name, added)?;
+            Ok(kind.node(other.copy(alloc)?, after))
+        }
     }
 }
 
@@ -103,31 +78,6 @@ pub(crate) fn extended_all(
         after.push(extended(alloc, node, name, added)?)?;
     }
     Ok(after)
-}
-
-// an equal node, but that it has one more member where it is a group
-fn grown(alloc: Global, node: &Node, added: &Node) -> Result<Node, NoMemory>
-    ensures { IfOk result (λ after. tree_of after ≡ extended (name_of (tree_of node.now)) (tree_of added.now) (tree_of node.now)) }
-{
-    match node {
-        Node::Leaf(_, _) | Node::Boundary(_) => node.copy(alloc),
-        Node::Sequence(name, members) => Ok(Node::Sequence(
-            name.copy(alloc)?,
-            longer(alloc, members, added)?,
-        )),
-        Node::Phase(name, members) => Ok(Node::Phase(
-            name.copy(alloc)?,
-            longer(alloc, members, added)?,
-        )),
-        Node::After(name, members) => Ok(Node::After(
-            name.copy(alloc)?,
-            longer(alloc, members, added)?,
-        )),
-        Node::Before(name, members) => Ok(Node::Before(
-            name.copy(alloc)?,
-            longer(alloc, members, added)?,
-        )),
-    }
 }
 
 // equal members with one more behind them

@@ -1,11 +1,12 @@
 ghost use Rattle.std.specs.Prelude.{◌≡◌, IfOk, option_map};
 ghost use Rattle.cg_model.specs.Node.{tree_of, trees_of};
-ghost use Rattle.cg_sharing.specs.Edit.{target_of, wrong_kind};
+ghost use Rattle.cg_sharing.specs.Edit.{target_of, kind_undated, kind_unfit, wrong_kind};
+ghost use Rattle.cg_edit.specs.Plain.{kind_in};
 
 use crate::fault::Kind;
-use crate::misplaced::{misplaced, misplaced_under};
+use crate::misplaced::misplaced_under;
 use crate::parent::parent_in;
-use cg_model::{Dating, Members, Name, Node};
+use cg_model::{Dating, GroupKind, Members, Name, Node, View};
 use cg_num::NoMemory;
 use std::alloc::Global;
 
@@ -25,7 +26,7 @@ pub enum Edit {
 }
 
 impl Edit {
-    ghost use Rattle.cg_edit.specs.Plain.{edit_in, kind_in};
+    ghost use Rattle.cg_edit.specs.Plain.{edit_in};
 
     /// An equal change.
     pub fn copy(&self, alloc: Global) -> Result<Edit, NoMemory>
@@ -59,16 +60,34 @@ impl Edit {
     pub(crate) fn wrong_kind(&self, node: &Node, top: &Members) -> Option<Kind>
         ensures { option_map kind_in result ≡ wrong_kind (edit_in self.now) (tree_of node.now) (trees_of top.now) }
     {
-        match (self, node) {
-            (Edit::Set(_, _), Node::Leaf(_, _)) | (Edit::Drop(_) | Edit::Rename(_, _), _) => None,
-            (Edit::Set(_, _), _) | (Edit::Add(_, _), Node::Leaf(_, _) | Node::Boundary(_)) => {
-                Some(Kind::of(node))
-            }
-            (Edit::Add(_, added), _) => misplaced(added, Kind::of(node)),
+        match self {
+            Edit::Set(_, _) => undated(node),
+            Edit::Add(_, added) => unfit(added, node),
             // the root is as a Phase
-            (Edit::InsertBefore(name, added), _) => {
-                misplaced_under(parent_in(name, Kind::Phase, top), added)
+            Edit::InsertBefore(name, added) => {
+                misplaced_under(parent_in(name, GroupKind::Phase, top), added)
             }
+            Edit::Drop(_) | Edit::Rename(_, _) => None,
         }
+    }
+}
+
+// the kind of a node that has no dating to set
+fn undated(node: &Node) -> Option<Kind>
+    ensures { option_map kind_in result ≡ kind_undated (tree_of node.now) }
+{
+    match node.view() {
+        View::Leaf(_, _) => None,
+        View::Boundary(_) | View::Group(_, _, _) => Some(Kind::of(node)),
+    }
+}
+
+// the kind for which a further member of a node is refused
+fn unfit(added: &Node, node: &Node) -> Option<Kind>
+    ensures { option_map kind_in result ≡ kind_unfit (tree_of added.now) (tree_of node.now) }
+{
+    match node.view() {
+        View::Leaf(_, _) | View::Boundary(_) => Some(Kind::of(node)),
+        View::Group(kind, _, _) => misplaced_under(Some(kind), added),
     }
 }

@@ -2,7 +2,7 @@ ghost use Rattle.std.specs.Prelude.{◌≡◌};
 ghost use Rattle.cg_model.specs.Node.{tree_of};
 ghost use Rattle.cg_sharing.specs.Edit.{kind_of};
 
-use cg_model::{Limit, Node};
+use cg_model::{GroupKind, Limit, Node, View};
 
 /// What a node is.
 #[derive(Clone, Copy, Debug, PartialEq, Eq)]
@@ -24,16 +24,32 @@ pub enum Kind {
 impl Kind {
     ghost use Rattle.cg_edit.specs.Plain.{kind_in};
 
-    pub(crate) fn of(node: &Node) -> Kind
+    /// What the node is. Takes no memory.
+    pub fn of(node: &Node) -> Kind
         ensures { kind_in result ≡ kind_of (tree_of node.now) }
     {
-        match node {
-            Node::Leaf(_, _) => Kind::Leaf,
-            Node::Boundary(_) => Kind::Boundary,
-            Node::Sequence(_, _) => Kind::Sequence,
-            Node::Phase(_, _) => Kind::Phase,
-            Node::After(_, _) => Kind::After,
-            Node::Before(_, _) => Kind::Before,
+        match node.view() {
+            View::Leaf(_, _) => Kind::Leaf,
+            View::Boundary(_) => Kind::Boundary,
+            View::Group(kind, _, _) => Kind::from(kind),
+        }
+    }
+}
+
+impl From<GroupKind> for Kind {
+    ghost use Rattle.std.specs.Prelude.{◌≡◌};
+    ghost use Rattle.cg_model.specs.Group as group;
+    ghost use Rattle.cg_sharing.specs.Edit.{a_group};
+    ghost use Rattle.cg_edit.specs.Plain.{kind_in};
+
+    ghost from_gives = { λ kind node. kind_in node ≡ a_group (group.kind_in kind) };
+
+    fn from(kind: GroupKind) -> Kind {
+        match kind {
+            GroupKind::Sequence => Kind::Sequence,
+            GroupKind::Phase => Kind::Phase,
+            GroupKind::After => Kind::After,
+            GroupKind::Before => Kind::Before,
         }
     }
 }

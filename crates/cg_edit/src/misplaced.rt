@@ -1,38 +1,31 @@
 //! Where a Boundary would stand out of place.
 ghost use Rattle.std.specs.Prelude.{◌≡◌, option_map};
+ghost use Rattle.cg_model.specs.Group as group;
 ghost use Rattle.cg_model.specs.Node.{tree_of, trees_of};
-ghost use Rattle.cg_sharing.specs.Edit.{a_group, misplaced_in, misplaced_in_all, misplaced_under};
+ghost use Rattle.cg_sharing.specs.Edit.{misplaced_in, misplaced_in_all, misplaced_under};
 ghost use Rattle.cg_edit.specs.Plain.{kind_in};
 
 use crate::fault::Kind;
-use cg_model::{Members, Node};
+use cg_model::{GroupKind, Members, Node, View};
 
 // the group in which a Boundary would stand out of place, were the node a member of a group of this kind
 #[cycle(misplaced)]
-pub(crate) fn misplaced(node: &Node, parent: Kind) -> Option<Kind>
-    ensures { (kind : _) → kind_in parent ≡ a_group kind
-        → option_map kind_in result ≡ option_map (λ k. a_group k) (misplaced_in kind (tree_of node.now)) }
+fn misplaced(node: &Node, parent: GroupKind) -> Option<GroupKind>
+    ensures { option_map group.kind_in result ≡ misplaced_in (group.kind_in parent) (tree_of node.now) }
 {
-    match node {
-        Node::Leaf(_, _) => None,
-        Node::Boundary(_) => {
-            if parent == Kind::Sequence {
-                None
-            } else {
-                Some(parent)
-            }
-        }
-        Node::Sequence(_, members) => misplaced_among(members, Kind::Sequence),
-        Node::Phase(_, members) => misplaced_among(members, Kind::Phase),
-        Node::After(_, members) => misplaced_among(members, Kind::After),
-        Node::Before(_, members) => misplaced_among(members, Kind::Before),
+    match node.view() {
+        View::Leaf(_, _) => None,
+        View::Boundary(_) => match parent {
+            GroupKind::Sequence => None,
+            GroupKind::Phase | GroupKind::After | GroupKind::Before => Some(parent),
+        },
+        View::Group(kind, _, members) => misplaced_among(members, kind),
     }
 }
 
 #[cycle(misplaced)]
-fn misplaced_among(members: &Members, parent: Kind) -> Option<Kind>
-    ensures { (kind : _) → kind_in parent ≡ a_group kind
-        → option_map kind_in result ≡ option_map (λ k. a_group k) (misplaced_in_all kind (trees_of members.now)) }
+fn misplaced_among(members: &Members, parent: GroupKind) -> Option<GroupKind>
+    ensures { option_map group.kind_in result ≡ misplaced_in_all (group.kind_in parent) (trees_of members.now) }
 {
     for node in members.nodes() {
         let found = misplaced(node, parent);
@@ -44,12 +37,9 @@ fn misplaced_among(members: &Members, parent: Kind) -> Option<Kind>
 }
 
 // the same, where there is such a group
-pub(crate) fn misplaced_under(parent: Option<Kind>, node: &Node) -> Option<Kind>
-    ensures { (found : _) → option_map kind_in parent ≡ option_map (λ k. a_group k) found
-        → option_map kind_in result ≡ misplaced_under found (tree_of node.now) }
+pub(crate) fn misplaced_under(parent: Option<GroupKind>, node: &Node) -> Option<Kind>
+    ensures { option_map kind_in result ≡ misplaced_under (option_map group.kind_in parent) (tree_of node.now) }
 {
-    match parent {
-        None => None,
-        Some(kind) => misplaced(node, kind),
-    }
+    let kind = misplaced(node, parent?)?;
+    Some(Kind::from(kind))
 }

@@ -4,7 +4,7 @@ ghost use Rattle.cg_model.specs.Node.{tree_of, trees_of, trees_with};
 ghost use Rattle.cg_sharing.specs.Edit.{preceded, preceded_all, without, without_all, renamed, renamed_all, new_name};
 
 use crate::named::has_name;
-use cg_model::{Members, Name, Node};
+use cg_model::{Members, Name, Node, View};
 use cg_num::NoMemory;
 use std::alloc::Global;
 
@@ -12,24 +12,12 @@ use std::alloc::Global;
 fn preceded(alloc: Global, node: &Node, name: &Name, added: &Node) -> Result<Node, NoMemory>
     ensures { IfOk result (λ after. tree_of after ≡ preceded name.now (tree_of added.now) (tree_of node.now)) }
 {
-    match node {
-        Node::Leaf(_, _) | Node::Boundary(_) => node.copy(alloc),
-        Node::Sequence(other, members) => Ok(Node::Sequence(
-            other.copy(alloc)?,
-            preceded_all(alloc, members, name, added)?,
-        )),
-        Node::Phase(other, members) => Ok(Node::Phase(
-            other.copy(alloc)?,
-            preceded_all(alloc, members, name, added)?,
-        )),
-        Node::After(other, members) => Ok(Node::After(
-            other.copy(alloc)?,
-            preceded_all(alloc, members, name, added)?,
-        )),
-        Node::Before(other, members) => Ok(Node::Before(
-            other.copy(alloc)?,
-            preceded_all(alloc, members, name, added)?,
-        )),
+    match node.view() {
+        View::Leaf(_, _) | View::Boundary(_) => node.copy(alloc),
+        View::Group(kind, other, members) => {
+            let after = preceded_all(alloc, members, name, added)?;
+            Ok(kind.node(other.copy(alloc)?, after))
+        }
     }
 }
 
@@ -72,24 +60,12 @@ fn push_both(
 fn without(alloc: Global, node: &Node, name: &Name) -> Result<Node, NoMemory>
     ensures { IfOk result (λ after. tree_of after ≡ without name.now (tree_of node.now)) }
 {
-    match node {
-        Node::Leaf(_, _) | Node::Boundary(_) => node.copy(alloc),
-        Node::Sequence(other, members) => Ok(Node::Sequence(
-            other.copy(alloc)?,
-            without_all(alloc, members, name)?,
-        )),
-        Node::Phase(other, members) => Ok(Node::Phase(
-            other.copy(alloc)?,
-            without_all(alloc, members, name)?,
-        )),
-        Node::After(other, members) => Ok(Node::After(
-            other.copy(alloc)?,
-            without_all(alloc, members, name)?,
-        )),
-        Node::Before(other, members) => Ok(Node::Before(
-            other.copy(alloc)?,
-            without_all(alloc, members, name)?,
-        )),
+    match node.view() {
+        View::Leaf(_, _) | View::Boundary(_) => node.copy(alloc),
+        View::Group(kind, other, members) => {
+            let after = without_all(alloc, members, name)?;
+            Ok(kind.node(other.copy(alloc)?, after))
+        }
     }
 }
 
@@ -116,23 +92,13 @@ fn renamed(alloc: Global, node: &Node, name: &Name, new: &Name) -> Result<Node, 
     ensures { IfOk result (λ after. tree_of after ≡ renamed name.now new.now (tree_of node.now)) }
 {
     let called = new_name(alloc, node.name(), name, new)?;
-    match node {
-        Node::Leaf(_, dating) => Ok(Node::Leaf(called, *dating)),
-        Node::Boundary(_) => Ok(Node::Boundary(called)),
-        Node::Sequence(_, members) => Ok(Node::Sequence(
-            called,
-            renamed_all(alloc, members, name, new)?,
-        )),
-        Node::Phase(_, members) => {
-            Ok(Node::Phase(called, renamed_all(alloc, members, name, new)?))
+    match node.view() {
+        View::Leaf(_, dating) => Ok(Node::Leaf(called, *dating)),
+        View::Boundary(_) => Ok(Node::Boundary(called)),
+        View::Group(kind, _, members) => {
+            let after = renamed_all(alloc, members, name, new)?;
+            Ok(kind.node(called, after))
         }
-        Node::After(_, members) => {
-            Ok(Node::After(called, renamed_all(alloc, members, name, new)?))
-        }
-        Node::Before(_, members) => Ok(Node::Before(
-            called,
-            renamed_all(alloc, members, name, new)?,
-        )),
     }
 }
 

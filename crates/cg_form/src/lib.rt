@@ -7,7 +7,6 @@
 #![tactic(auto)]
 
 mod fault;
-mod kind;
 mod laws;
 mod model;
 mod piece;

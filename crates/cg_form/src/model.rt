@@ -4,9 +4,8 @@ ghost use Rattle.cg_form.specs.Model.{IsModel, HasNoModel};
 ghost use Rattle.cg_form.specs.Reading.{is_end, alone_at};
 
 use crate::fault::FormFault;
-use crate::kind::Kind;
 use crate::statement::{statement_at, statements_at};
-use cg_model::{ModelTree, Node};
+use cg_model::{GroupKind, ModelTree, Node};
 use std::alloc::Global;
 
 const MAX_DEPTH: u32 = 16;
@@ -31,7 +30,7 @@ pub fn read_model(alloc: Global, bytes: &[u8]) -> Result<ModelTree, FormFault>
     ensures ok { IfOk result (λ model. IsModel bytes.now model) }
     ensures form { result ≡ Err FormFault.Form → HasNoModel bytes.now }
 {
-    let (top, rest) = statements_at(alloc, MAX_DEPTH, Kind::Phase, bytes)?;
+    let (top, rest) = statements_at(alloc, MAX_DEPTH, GroupKind::Phase, bytes)?;
     if !is_end(rest) {
         return Err(FormFault::Form);
     }
@@ -48,7 +47,7 @@ pub fn alone_at(alloc: Global, bytes: &[u8]) -> Result<(Node, &[u8]), FormFault>
     ensures ok { IfOk result (λ read. alone_at bytes.now ≡ Some (tree_of read.0, read.1.now)) }
     ensures form { result ≡ Err FormFault.Form → alone_at bytes.now ≡ None }
 {
-    let (node, rest) = statement_at(alloc, MAX_DEPTH, Kind::Sequence, bytes)?;
+    let (node, rest) = statement_at(alloc, MAX_DEPTH, GroupKind::Sequence, bytes)?;
     if node.events() <= MAX_EVENTS && node.groups() <= MAX_GROUPS {
         Ok((node, rest))
     } else {

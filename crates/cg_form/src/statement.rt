@@ -2,15 +2,14 @@
 ghost use Rattle.std.specs.Prelude.{◌≡◌, ◌-◌, ◌≤◌, length, slice_index, ◌==◌, Some, None, option_map, IfOk};
 ghost use Rattle.cg_meaning.specs.Tree as spec;
 ghost use Rattle.cg_model.specs.Dating.{dating_of};
+ghost use Rattle.cg_model.specs.Group.{kind_in};
 ghost use Rattle.cg_model.specs.Node.{tree_of, trees_of};
-ghost use Rattle.cg_form.specs.Kind.{kind_in};
 ghost use Rattle.cg_form.specs.Reading.{date_at, c_date_at, r_date_at, leaf_at, boundary_at, kind_at, title_at, head_at, is_past, statement_at, statements_at};
 
 use crate::fault::FormFault;
-use crate::kind::Kind;
 use crate::piece::{after, text_at};
 use crate::value::{carbon_at, dated_at, free_at};
-use cg_model::{Dating, Members, Name, NameFault, Node};
+use cg_model::{Dating, GroupKind, Members, Name, NameFault, Node};
 use cg_num::NoMemory;
 use std::alloc::Global;
 
@@ -73,32 +72,32 @@ fn leaf_at(bytes: &[u8]) -> Option<(&str, Dating, &[u8])>
 
 /// A Boundary, which only a Sequence may hold.
 #[tactic(auto, unfolding(crate::specs::Reading::boundary_at))]
-fn boundary_at(parent: Kind, bytes: &[u8]) -> Option<(&str, &[u8])>
+fn boundary_at(parent: GroupKind, bytes: &[u8]) -> Option<(&str, &[u8])>
     ensures { option_map (λ boundary. (spec.Boundary boundary.0.now, boundary.1.now)) result ≡ boundary_at (kind_in parent) bytes.now }
 {
     match parent {
-        Kind::Sequence => {
+        GroupKind::Sequence => {
             let (name, behind) = text_at(after(bytes, b"Boundary(")?)?;
             Some((name, after(behind, b");")?))
         }
-        Kind::Phase | Kind::After | Kind::Before => None,
+        GroupKind::Phase | GroupKind::After | GroupKind::Before => None,
     }
 }
 
 #[tactic(auto, unfolding(crate::specs::Reading::kind_at))]
-fn kind_at(bytes: &[u8]) -> Option<(Kind, &[u8])>
+fn kind_at(bytes: &[u8]) -> Option<(GroupKind, &[u8])>
     ensures { option_map (λ kind. (kind_in kind.0, kind.1.now)) result ≡ kind_at bytes.now }
 {
     if let Some(rest) = after(bytes, b"Sequence(") {
-        return Some((Kind::Sequence, rest));
+        return Some((GroupKind::Sequence, rest));
     }
     if let Some(rest) = after(bytes, b"Phase(") {
-        return Some((Kind::Phase, rest));
+        return Some((GroupKind::Phase, rest));
     }
     if let Some(rest) = after(bytes, b"After(") {
-        return Some((Kind::After, rest));
+        return Some((GroupKind::After, rest));
     }
-    Some((Kind::Before, after(bytes, b"Before(")?))
+    Some((GroupKind::Before, after(bytes, b"Before(")?))
 }
 
 fn title_at(bytes: &[u8]) -> Option<(&str, &[u8])>
@@ -112,23 +111,12 @@ fn title_at(bytes: &[u8]) -> Option<(&str, &[u8])>
 
 /// The kind and the name of a group, and what comes after its opening brace.
 #[tactic(auto, unfolding(crate::specs::Reading::head_at))]
-fn head_at(bytes: &[u8]) -> Option<(Kind, &str, &[u8])>
+fn head_at(bytes: &[u8]) -> Option<(GroupKind, &str, &[u8])>
     ensures { option_map (λ head. ((kind_in head.0, head.1.now), head.2.now)) result ≡ head_at bytes.now }
 {
     let (kind, rest) = kind_at(bytes)?;
     let (name, rest) = title_at(rest)?;
     Some((kind, name, after(rest, b"){")?))
-}
-
-fn group_of(kind: Kind, name: Name, members: Members) -> Node
-    ensures { tree_of result ≡ spec.Group (kind_in kind) name (trees_of members) }
-{
-    match kind {
-        Kind::Sequence => Node::Sequence(name, members),
-        Kind::Phase => Node::Phase(name, members),
-        Kind::After => Node::After(name, members),
-        Kind::Before => Node::Before(name, members),
-    }
 }
 
 /// Whether no statement follows.
@@ -146,7 +134,7 @@ fn is_past(bytes: &[u8]) -> bool
 pub fn statement_at(
     alloc: Global,
     depth: u32,
-    parent: Kind,
+    parent: GroupKind,
     bytes: &[u8],
 ) -> Result<(Node, &[u8]), FormFault>
     ensures ok { IfOk result (λ read. statement_at depth (kind_in parent) bytes.now ≡ Some (tree_of read.0, read.1.now)) }
@@ -168,7 +156,7 @@ pub fn statement_at(
     let Some(rest) = after(behind, b"};") else {
         return Err(FormFault::Form);
     };
-    Ok((group_of(kind, name_of(alloc, name)?, members), rest))
+    Ok((kind.node(name_of(alloc, name)?, members), rest))
 }
 
 /// Statements up to where none follows, and what comes after them.
@@ -176,7 +164,7 @@ pub fn statement_at(
 pub fn statements_at(
     alloc: Global,
     depth: u32,
-    parent: Kind,
+    parent: GroupKind,
     bytes: &[u8],
 ) -> Result<(Members, &[u8]), FormFault>
     ensures ok { IfOk result (λ read. statements_at depth (kind_in parent) bytes.now ≡ Some (trees_of read.0, read.1.now)) }

@@ -6,25 +6,26 @@ use Rattle.std.specs.List.{list_any}
 use Rattle.cg_meaning.specs.Order.{is_sequence, is_before, is_after, passes_before, passes_after, precedes}
 use Rattle.cg_meaning.specs.Tree as spec
 use Rattle.cg_meaning.specs.Tree.{Tree, Trees, more, paths_of, paths_of_all}
-use Rattle.cg_listing.specs.Step.{kind_of, step_of}
+use Rattle.cg_model.specs.Group.{kind_in}
+use Rattle.cg_listing.specs.Step.{step_of}
 use Rattle.cg_listing.specs.declared.path.Step.{Step}
 
-pub passes_before-map : (path : List Step) → passes_before (map step_of path) ≡ list_any (λ step. is_before (kind_of step.kind)) path
+pub passes_before-map : (path : List Step) → passes_before (map step_of path) ≡ list_any (λ step. is_before (kind_in step.kind)) path
 passes_before-map [] = refl
-passes_before-map (s ∷ p) = ap (λ b. is_before (kind_of s.kind) || b) (passes_before-map p)
+passes_before-map (s ∷ p) = ap (λ b. is_before (kind_in s.kind) || b) (passes_before-map p)
 
-pub passes_after-map : (path : List Step) → passes_after (map step_of path) ≡ list_any (λ step. is_after (kind_of step.kind)) path
+pub passes_after-map : (path : List Step) → passes_after (map step_of path) ≡ list_any (λ step. is_after (kind_in step.kind)) path
 passes_after-map [] = refl
-passes_after-map (s ∷ p) = ap (λ b. is_after (kind_of s.kind) || b) (passes_after-map p)
+passes_after-map (s ∷ p) = ap (λ b. is_after (kind_in s.kind) || b) (passes_after-map p)
 
 -- two paths that part at their first steps
 pub precedes-parting : (s t : Step) (p q : List Step) → (s.place ≡ t.place → ⊥) →
     precedes (map step_of (s ∷ p)) (map step_of (t ∷ q))
-    ≡ (is_sequence (kind_of s.kind) && ltb s.place t.place
-    && not (list_any (λ step. is_before (kind_of step.kind)) p) && not (list_any (λ step. is_after (kind_of step.kind)) q))
+    ≡ (is_sequence (kind_in s.kind) && ltb s.place t.place
+    && not (list_any (λ step. is_before (kind_in step.kind)) p) && not (list_any (λ step. is_after (kind_in step.kind)) q))
 precedes-parting s t p q part =
     let other : eqb s.place t.place ≡ false = ne_eqb s.place t.place part in
-    let earlier : Bool = is_sequence (kind_of s.kind) && ltb s.place t.place in
+    let earlier : Bool = is_sequence (kind_in s.kind) && ltb s.place t.place in
     rw other (ap₂ (λ before after. earlier && not before && not after) (passes_before-map p) (passes_after-map q))
 
 -- further steps behind one step

@@ -2,45 +2,18 @@
 ghost use Rattle.std.specs.Prelude.{◌≡◌, ◌&&◌, not, nat_lt, ◌++◌, ◌∷◌, [], map, IfOk};
 ghost use Rattle.std.specs.List.{list_any};
 ghost use Rattle.cg_meaning.specs.Order.{is_before, is_after, is_sequence, precedes};
-ghost use Rattle.cg_listing.specs.Step.{kind_of, step_of};
+ghost use Rattle.cg_model.specs.Group.{kind_in};
+ghost use Rattle.cg_listing.specs.Step.{step_of};
 
+use cg_model::GroupKind;
 use cg_num::NoMemory;
 use std::alloc::Global;
 use std::marker::Model;
 
-/// The kind of a group.
-#[derive(Clone, Copy, Debug, PartialEq, Eq)]
-pub(crate) enum Kind {
-    Sequence,
-    Phase,
-    After,
-    Before,
-}
-
-impl Kind {
-    fn is_sequence(self) -> bool
-        ensures { result ≡ is_sequence (kind_of self) }
-    {
-        matches!(self, Kind::Sequence)
-    }
-
-    fn is_after(self) -> bool
-        ensures { result ≡ is_after (kind_of self) }
-    {
-        matches!(self, Kind::After)
-    }
-
-    fn is_before(self) -> bool
-        ensures { result ≡ is_before (kind_of self) }
-    {
-        matches!(self, Kind::Before)
-    }
-}
-
 /// A step down: from a group of this kind to its member at this place.
 #[derive(Clone, Copy, Debug, PartialEq, Eq)]
 pub(crate) struct Step {
-    pub kind: Kind,
+    pub kind: GroupKind,
     pub place: usize,
 }
 
@@ -110,22 +83,40 @@ fn precedes(p: &[Step], q: &[Step]) -> bool
     }
 }
 
+fn is_sequence(kind: GroupKind) -> bool
+    ensures { result ≡ is_sequence (kind_in kind) }
+{
+    matches!(kind, GroupKind::Sequence)
+}
+
+fn is_after(kind: GroupKind) -> bool
+    ensures { result ≡ is_after (kind_in kind) }
+{
+    matches!(kind, GroupKind::After)
+}
+
+fn is_before(kind: GroupKind) -> bool
+    ensures { result ≡ is_before (kind_in kind) }
+{
+    matches!(kind, GroupKind::Before)
+}
+
 // whether the event behind the first step must not be later than the one behind the second, where these part
 fn is_bound(s: &Step, p: &[Step], t: &Step, q: &[Step]) -> bool
-    ensures { result ≡ (is_sequence (kind_of s.now.kind) && nat_lt s.now.place t.now.place
-        && not (list_any (λ step. is_before (kind_of step.kind)) p.now) && not (list_any (λ step. is_after (kind_of step.kind)) q.now)) }
+    ensures { result ≡ (is_sequence (kind_in s.now.kind) && nat_lt s.now.place t.now.place
+        && not (list_any (λ step. is_before (kind_in step.kind)) p.now) && not (list_any (λ step. is_after (kind_in step.kind)) q.now)) }
 {
-    s.kind.is_sequence() && s.place < t.place && !passes_before(p) && !passes_after(q)
+    is_sequence(s.kind) && s.place < t.place && !passes_before(p) && !passes_after(q)
 }
 
 fn passes_before(path: &[Step]) -> bool
-    ensures { result ≡ list_any (λ step. is_before (kind_of step.kind)) path.now }
+    ensures { result ≡ list_any (λ step. is_before (kind_in step.kind)) path.now }
 {
-    path.iter().any(|step| step.kind.is_before())
+    path.iter().any(|step| is_before(step.kind))
 }
 
 fn passes_after(path: &[Step]) -> bool
-    ensures { result ≡ list_any (λ step. is_after (kind_of step.kind)) path.now }
+    ensures { result ≡ list_any (λ step. is_after (kind_in step.kind)) path.now }
 {
-    path.iter().any(|step| step.kind.is_after())
+    path.iter().any(|step| is_after(step.kind))
 }

@@ -1,11 +1,11 @@
 //! The events of a model: how many, and the path to each.
 ghost use Rattle.std.specs.Prelude.{◌≡◌, ◌++◌, OnOk, IfOk, map, min};
 ghost use Rattle.cg_meaning.specs.Tree.{Phase, Chronology, count, count_all, paths_of, paths_of_all, root_of};
+ghost use Rattle.cg_model.specs.Group.{kind_in};
 ghost use Rattle.cg_model.specs.Node.{tree_of, trees_of};
-ghost use Rattle.cg_listing.specs.Step.{kind_of};
 
-use crate::path::{Kind, Path, Step};
-use cg_model::{Members, ModelTree, Node};
+use crate::path::{Path, Step};
+use cg_model::{GroupKind, Members, ModelTree, Node, View};
 use cg_num::NoMemory;
 use std::alloc::Global;
 
@@ -16,7 +16,7 @@ pub(crate) fn paths(alloc: Global, model: &ModelTree) -> Result<Vec<Path>, NoMem
     let mut paths = Vec::new(alloc);
     put_all(
         alloc,
-        Kind::Phase,
+        GroupKind::Phase,
         model.top(),
         &Path::new(alloc),
         &mut paths,
@@ -28,28 +28,25 @@ pub(crate) fn paths(alloc: Global, model: &ModelTree) -> Result<Vec<Path>, NoMem
 fn put(alloc: Global, node: &Node, to: &Path, paths: &mut Vec<Path>) -> Result<(), NoMemory>
     ensures { OnOk result (paths.new.items ≡ paths.old.items ++ map (λ path. to.now ++ path) (paths_of (tree_of node.now))) }
 {
-    match node {
-        Node::Leaf(_, _) | Node::Boundary(_) => {
+    match node.view() {
+        View::Leaf(_, _) | View::Boundary(_) => {
             paths.push(to.copy(alloc)?)?;
             Ok(())
         }
-        Node::Sequence(_, members) => put_all(alloc, Kind::Sequence, members, to, paths),
-        Node::Phase(_, members) => put_all(alloc, Kind::Phase, members, to, paths),
-        Node::After(_, members) => put_all(alloc, Kind::After, members, to, paths),
-        Node::Before(_, members) => put_all(alloc, Kind::Before, members, to, paths),
+        View::Group(kind, _, members) => put_all(alloc, kind, members, to, paths),
     }
 }
 
 #[cycle(paths)]
 fn put_all(
     alloc: Global,
-    kind: Kind,
+    kind: GroupKind,
     members: &Members,
     to: &Path,
     paths: &mut Vec<Path>,
 ) -> Result<(), NoMemory>
     ensures { OnOk result (paths.new.items
-        ≡ paths.old.items ++ map (λ path. to.now ++ path) (paths_of_all (kind_of kind) 0 (trees_of members.now))) }
+        ≡ paths.old.items ++ map (λ path. to.now ++ path) (paths_of_all (kind_in kind) 0 (trees_of members.now))) }
 {
     for place in 0..members.len() {
         let inner = to.with(alloc, Step { kind, place })?;
@@ -63,12 +60,9 @@ fn put_all(
 pub(crate) fn events(node: &Node) -> usize
     ensures { result ≡ min (count (tree_of node.now)) usize.MAX }
 {
-    match node {
-        Node::Leaf(_, _) | Node::Boundary(_) => 1,
-        Node::Sequence(_, members)
-        | Node::Phase(_, members)
-        | Node::After(_, members)
-        | Node::Before(_, members) => events_in(members),
+    match node.view() {
+        View::Leaf(_, _) | View::Boundary(_) => 1,
+        View::Group(_, _, members) => events_in(members),
     }
 }
 

@@ -17,23 +17,23 @@ abbrev one_year : Scene
 one_year = scene_on (record { oldest = pos 2000; cells = 1 })
 
 -- 2001 and 2000
-abbrev two_years : Scene
+abbrev pub two_years : Scene
 two_years = scene_on (record { oldest = pos 2001; cells = 2 })
 
 -- 2002 to 2000
-abbrev three_years : Scene
+abbrev pub three_years : Scene
 three_years = scene_on (record { oldest = pos 2002; cells = 3 })
 
 -- one statement, under the nameless root
-abbrev alone : Tree → Tree
+abbrev pub alone : Tree → Tree
 alone t = Group Phase [] (more t none)
 
 -- a nameless group
-abbrev group : Kind → Trees → Tree
+abbrev pub group : Kind → Trees → Tree
 group kind ts = Group kind [] ts
 
 -- an event without a dating
-abbrev date : Tree
+abbrev pub date : Tree
 date = Leaf [] Free
 
 -- an event of an exact year in cal BP
@@ -41,11 +41,11 @@ abbrev exact : ℕ → Tree
 exact year = Leaf [] (Exact (pos year))
 
 -- a Boundary
-abbrev boundary : Tree
+abbrev pub boundary : Tree
 boundary = Boundary []
 
 -- Two events: Sequence {A; B}.
-abbrev two_events : Tree
+abbrev pub two_events : Tree
 two_events = alone (group Sequence (more date (more date none)))
 
 two_events-sums : (total two_events three_years ones ≡ 6) × (sums two_events three_years 0 ≡ 3 ∷ 2 ∷ 1 ∷ [])
@@ -145,7 +145,7 @@ before_first-sums : (total before_first two_years ones ≡ 4) × (sums before_fi
 before_first-sums = (refl, refl)
 
 -- a curve of two rows, 2002 cal BP at 2010 ± 0 and 2000 cal BP at 1990 ± 40
-abbrev falling : Curve
+abbrev pub falling : Curve
 falling =
     record { year = pos 2002; age = pos 2010000; sigma = pos 0 } ∷ record { year = pos 2000; age = pos 1990000; sigma = pos 40000 } ∷ []
 
@@ -163,7 +163,7 @@ outside_rows : (point_at falling (pos 2003) ≡ None) × (point_at falling (pos 
 outside_rows = (refl, refl)
 
 -- the years 2003 to 2000 under that curve
-abbrev under_falling : Scene
+abbrev pub under_falling : Scene
 under_falling = record { grid = record { oldest = pos 2003; cells = 4 }; curve = falling }
 
 -- A radiocarbon age of 2000 ± 30: at no distance from the middle, and none where the curve has no value.

@@ -2,6 +2,8 @@ pub mod Dating
 pub mod Event
 pub mod Found
 pub mod Grid
+pub mod Group
 pub mod Limits
 pub mod Node
 pub mod Stored
+pub mod View

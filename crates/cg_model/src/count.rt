@@ -4,6 +4,7 @@ ghost use Rattle.cg_meaning.specs.Tree.{count, count_all};
 ghost use Rattle.cg_model.specs.Limits.{groups_of, groups_in, depth_of, depth_in};
 
 use crate::node::{Members, Node};
+use crate::view::View;
 
 impl Node {
     ghost use Rattle.cg_model.specs.Node.{tree_of};
@@ -13,12 +14,9 @@ impl Node {
     pub fn events(&self) -> u32
         ensures { result ≡ min (count (tree_of self.now)) u32.MAX }
     {
-        match self {
-            Node::Leaf(_, _) | Node::Boundary(_) => 1,
-            Node::Sequence(_, members)
-            | Node::Phase(_, members)
-            | Node::After(_, members)
-            | Node::Before(_, members) => members.events(),
+        match self.view() {
+            View::Leaf(_, _) | View::Boundary(_) => 1,
+            View::Group(_, _, members) => members.events(),
         }
     }
 
@@ -27,12 +25,9 @@ impl Node {
     pub fn groups(&self) -> u32
         ensures { result ≡ min (groups_of (tree_of self.now)) u32.MAX }
     {
-        match self {
-            Node::Leaf(_, _) | Node::Boundary(_) => 0,
-            Node::Sequence(_, members)
-            | Node::Phase(_, members)
-            | Node::After(_, members)
-            | Node::Before(_, members) => members.groups().saturating_add(1),
+        match self.view() {
+            View::Leaf(_, _) | View::Boundary(_) => 0,
+            View::Group(_, _, members) => members.groups().saturating_add(1),
         }
     }
 
@@ -40,12 +35,9 @@ impl Node {
     pub(crate) fn depth(&self) -> u32
         ensures { result ≡ min (depth_of (tree_of self.now)) u32.MAX }
     {
-        match self {
-            Node::Leaf(_, _) | Node::Boundary(_) => 1,
-            Node::Sequence(_, members)
-            | Node::Phase(_, members)
-            | Node::After(_, members)
-            | Node::Before(_, members) => members.depth().saturating_add(1),
+        match self.view() {
+            View::Leaf(_, _) | View::Boundary(_) => 1,
+            View::Group(_, _, members) => members.depth().saturating_add(1),
         }
     }
 }

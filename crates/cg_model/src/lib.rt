@@ -8,16 +8,20 @@ mod count;
 mod dating;
 mod find;
 mod grid;
+mod group;
 mod model;
 mod name;
 mod node;
 mod place;
 #[cfg(test)]
 mod tests;
+mod view;
 
 pub use dating::Dating;
 pub use find::Found;
 pub use grid::{Grid, GridLimit};
+pub use group::GroupKind;
 pub use model::{Limit, ModelTree};
 pub use name::{Name, NameFault};
 pub use node::{Members, Node};
+pub use view::View;

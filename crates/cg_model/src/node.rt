@@ -3,6 +3,7 @@ ghost use Rattle.cg_meaning.specs.Tree.{name_of};
 
 use crate::dating::Dating;
 use crate::name::Name;
+use crate::view::View;
 use cg_num::NoMemory;
 use sqlite_items::Items;
 use std::alloc::Global;
@@ -99,13 +100,8 @@ impl Node {
     pub fn name(&self) -> &Name
         ensures { result.now ≡ name_of (tree_of self.now) }
     {
-        match self {
-            Node::Leaf(name, _)
-            | Node::Boundary(name)
-            | Node::Sequence(name, _)
-            | Node::Phase(name, _)
-            | Node::After(name, _)
-            | Node::Before(name, _) => name,
+        match self.view() {
+            View::Leaf(name, _) | View::Boundary(name) | View::Group(_, name, _) => name,
         }
     }
 
@@ -120,19 +116,12 @@ impl Node {
     pub fn copy(&self, alloc: Global) -> Result<Node, NoMemory>
         ensures { IfOk result (λ node. node ≡ self.now) }
     {
-        match self {
-            Node::Leaf(name, dating) => Ok(Node::Leaf(name.copy(alloc)?, *dating)),
-            Node::Boundary(name) => Ok(Node::Boundary(name.copy(alloc)?)),
-            Node::Sequence(name, members) => Ok(Node::Sequence(
-                name.copy(alloc)?,
-                members.copy(alloc)?,
-            )),
-            Node::Phase(name, members) => Ok(Node::Phase(name.copy(alloc)?, members.copy(alloc)?)),
-            Node::After(name, members) => Ok(Node::After(name.copy(alloc)?, members.copy(alloc)?)),
-            Node::Before(name, members) => Ok(Node::Before(
-                name.copy(alloc)?,
-                members.copy(alloc)?,
-            )),
+        match self.view() {
+            View::Leaf(name, dating) => Ok(Node::Leaf(name.copy(alloc)?, *dating)),
+            View::Boundary(name) => Ok(Node::Boundary(name.copy(alloc)?)),
+            View::Group(kind, name, members) => {
+                Ok(kind.node(name.copy(alloc)?, members.copy(alloc)?))
+            }
         }
     }
 }

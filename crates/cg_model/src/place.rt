@@ -5,6 +5,7 @@ ghost use Rattle.cg_model.specs.Dating.{dating_of};
 
 use crate::dating::Dating;
 use crate::node::{Members, Node};
+use crate::view::View;
 
 impl Node {
     ghost use Rattle.cg_model.specs.Node.{tree_of};
@@ -16,14 +17,11 @@ impl Node {
         ensures here { IfOk result (λ dating. slice_get (datings_of (tree_of self.now)) event ≡ Some (dating_of dating.now)) }
         ensures past { IfErr result (λ left. left + length (datings_of (tree_of self.now)) ≡ event) }
     {
-        match self {
-            Node::Leaf(_, dating) if event == 0 => Ok(dating),
-            Node::Boundary(_) if event == 0 => Ok(free),
-            Node::Leaf(_, _) | Node::Boundary(_) => Err(event - 1),
-            Node::Sequence(_, members)
-            | Node::Phase(_, members)
-            | Node::After(_, members)
-            | Node::Before(_, members) => members.dating_at(event, free),
+        match self.view() {
+            View::Leaf(_, dating) if event == 0 => Ok(dating),
+            View::Boundary(_) if event == 0 => Ok(free),
+            View::Leaf(_, _) | View::Boundary(_) => Err(event - 1),
+            View::Group(_, _, members) => members.dating_at(event, free),
         }
     }
 
@@ -36,12 +34,9 @@ impl Node {
         if place == 0 {
             return Ok(self);
         }
-        match self {
-            Node::Leaf(_, _) | Node::Boundary(_) => Err(place - 1),
-            Node::Sequence(_, members)
-            | Node::Phase(_, members)
-            | Node::After(_, members)
-            | Node::Before(_, members) => members.locate(place - 1),
+        match self.view() {
+            View::Leaf(_, _) | View::Boundary(_) => Err(place - 1),
+            View::Group(_, _, members) => members.locate(place - 1),
         }
     }
 }

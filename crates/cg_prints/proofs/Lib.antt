@@ -2,4 +2,3 @@ pub mod StateLemmas
 pub mod EventLemmas
 pub mod PrintLemmas
 pub mod PrintCases
-pub mod TextLemmas

@@ -1,4 +1,4 @@
-ghost use Rattle.cg_prints.specs.Laws.{PrintsAreFounded, PrintsAreAll};
+ghost use Rattle.cg_prints.specs.Laws.{PrintsAreFounded};
 
 use cg_edit::changed_models_are_models;
 
@@ -9,8 +9,3 @@ pub fn prints_are_founded()
 {
     changed_models_are_models();
 }
-
-/// The law that what a session writes takes no other marginals than those that it prints. Does nothing.
-pub fn prints_are_all()
-    ensures { PrintsAreAll }
-{}

@@ -1,6 +1,6 @@
-//! What sessions print, and what holds of it whatever their scripts and turns are. Definitions and laws alone.
+//! What holds of each marginal that a session prints, whatever the scripts and the turns are. A law alone.
 #![tactic(auto)]
 
 mod laws;
 
-pub use laws::{prints_are_all, prints_are_founded};
+pub use laws::prints_are_founded;

@@ -7,7 +7,7 @@ use Rattle.cg_meaning.specs.Curve.{Curve}
 use Rattle.cg_sharing.specs.Edit.{Add, result_of}
 use Rattle.cg_sharing.specs.Command.{Command, Line, Grid, Open, Take, Undo, Change, Commit, Print}
 use Rattle.cg_sharing.specs.Versions.{StartModel}
-use Rattle.cg_sharing.specs.Course.{Marginals}
+use Rattle.cg_sharing.specs.Pieces.{Marginals}
 use Rattle.cg_sharing.specs.Interleaving.{interleaving, transcripts_of}
 
 abbrev date : List ℕ → Tree
@@ -25,8 +25,8 @@ abbrev pairs_of : ℕ → Option (List (ℕ × ℕ))
 pairs_of zero = None
 pairs_of (suc earlier) = Some ((1, 2) ∷ [])
 
-abbrev marginals_on : Curve → Marginals
-marginals_on curve = record { curve = curve; of = λ tree scene event. pairs_of event }
+abbrev marginals : Marginals
+marginals = λ tree scene event. pairs_of event
 
 abbrev lines_from : ℕ → List Command → List Line
 lines_from number [] = []
@@ -38,7 +38,7 @@ add_to_s name = Change (Add (codes "s") (date name))
 -- what sessions of these scripts write, which take these turns over this model
 abbrev written_on : Curve → StartModel → List (List Command) → List ℕ → List (List ℕ)
 written_on curve model scripts turns =
-    transcripts_of 1 (interleaving (marginals_on curve) (model ∷ []) (map (λ commands. lines_from 1 commands) scripts) turns).places
+    transcripts_of marginals 1 (interleaving curve (model ∷ []) (map (λ commands. lines_from 1 commands) scripts) turns).places
 
 abbrev written : List (List Command) → List ℕ → List (List ℕ)
 written scripts turns = written_on [] main_model scripts turns
@@ -55,7 +55,7 @@ one_head = refl
 
 -- Refusals in their order, by the lines of the script; a refused grid leaves the grid.
 refusals : written
-    ((Print (codes "A") ∷ Undo ∷ Commit (codes "main") ∷ add_to_s (codes "C") ∷ Open (codes "m") ∷ Open (codes "main") ∷ Print (codes "A")
+    ((Print (codes "A") ∷ Undo ∷ Commit (codes "main") ∷ add_to_s (codes "C") ∷ Open (codes "curve") ∷ Open (codes "main") ∷ Print (codes "A")
     ∷ Grid (pos 2512) (pos 2000) ∷ Grid (pos 2000) (pos 2000) ∷ Grid (pos 2000) (pos 2001) ∷ Print (codes "Z") ∷ Print (codes "s")
     ∷ Print (codes "A") ∷ Print (codes "B") ∷ add_to_s (codes "A") ∷ Print (codes "A") ∷ Take 0 ∷ Commit (codes "main") ∷ Undo ∷ []) ∷ [])
     []

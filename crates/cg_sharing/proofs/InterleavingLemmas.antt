@@ -2,112 +2,113 @@
 use Rattle.std.proofs.Common.{◌≡◌, ◌≢◌, ℕ, zero, suc, ◌+◌, ◌<◌, ◌≤◌, List, [], ◌∷◌, ◌++◌, length, replicate, refl, sym, ap, subst, ◌∙◌, arith, Option, Some, None, append_assoc, append-nil, length-append}
 use Rattle.std.proofs.Math.Seq.{set-append_seam}
 use Rattle.std.specs.Prelude.{All, slice_get, slice_set}
+use Rattle.cg_meaning.specs.Curve.{Curve}
 use Rattle.cg_sharing.specs.Command.{Line}
 use Rattle.cg_sharing.specs.Versions.{State, StartModel, start_of, count_of}
 use Rattle.cg_sharing.specs.Journal.{Act, Entry, answer_of, after, state_after, IsLegal}
-use Rattle.cg_sharing.specs.Course.{Marginals, Place, next, went, IsRunning, AreFit}
-use Rattle.cg_sharing.specs.Interleaving.{World, world_after, advanced, turn, turns_taken, begins, begun, last_turns, run_out, transcripts_of, AreWhole, EachRunsToItsEnd}
+use Rattle.cg_sharing.specs.Course.{Place, next, went, IsRunning, AreFit}
+use Rattle.cg_sharing.specs.Interleaving.{World, world_after, advanced, turn, turns_taken, begins, begun, last_turns, run_out, AreWhole, EachRunsToItsEnd}
 use Rattle.cg_sharing.proofs.JournalLemmas.{state_after-append, IsLegal-append, IsClosed, closed-after, start-closed}
 use Rattle.cg_sharing.proofs.CourseLemmas.{running-others, running-own, Knows, Rests, may_next, went_next, running_knows}
 
 -- The sessions from this number on are at places of their courses.
-abbrev pub AreRunning : Marginals → ℕ → State → List (List Line) → List Entry → List Place → Type 0
-AreRunning m session start [] entries [] = Unit {0}
-AreRunning m session start [] entries (place ∷ places) = ⊥
-AreRunning m session start (script ∷ scripts) entries [] = ⊥
-AreRunning m session start (script ∷ scripts) entries (place ∷ places) =
-    AreFit script × IsRunning m session start script entries place × AreRunning m (session + 1) start scripts entries places
+abbrev pub AreRunning : Curve → ℕ → State → List (List Line) → List Entry → List Place → Type 0
+AreRunning curve session start [] entries [] = Unit {0}
+AreRunning curve session start [] entries (place ∷ places) = ⊥
+AreRunning curve session start (script ∷ scripts) entries [] = ⊥
+AreRunning curve session start (script ∷ scripts) entries (place ∷ places) =
+    AreFit script × IsRunning curve session start script entries place × AreRunning curve (session + 1) start scripts entries places
 
 -- The journal is legal, the state is the one that it leads to, and each session is at a place of its course.
-pub record IsSound (m : Marginals) (start : State) (scripts : List (List Line)) (world : World) : Type 0 where
+pub record IsSound (curve : Curve) (start : State) (scripts : List (List Line)) (world : World) : Type 0 where
   pub legal : IsLegal start world.journal
   pub state : world.state ≡ state_after start world.journal
-  pub running : AreRunning m 1 start scripts world.journal world.places
+  pub running : AreRunning curve 1 start scripts world.journal world.places
 
 -- An entry of an earlier session leaves them.
-after_earlier : (m : Marginals) (session : ℕ) (start : State) (scripts : List (List Line)) (xs : List Entry) (entry : Entry) (places : List Place) → entry.seat < session →
-    AreRunning m session start scripts xs places → AreRunning m session start scripts (xs ++ entry ∷ []) places
-after_earlier m session start [] xs entry [] less run = tt
-after_earlier m session start [] xs entry (place ∷ places) less run = run
-after_earlier m session start (script ∷ scripts) xs entry [] less run = run
-after_earlier m session start (script ∷ scripts) xs entry (place ∷ places) less run =
+after_earlier : (curve : Curve) (session : ℕ) (start : State) (scripts : List (List Line)) (xs : List Entry) (entry : Entry) (places : List Place) → entry.seat < session →
+    AreRunning curve session start scripts xs places → AreRunning curve session start scripts (xs ++ entry ∷ []) places
+after_earlier curve session start [] xs entry [] less run = tt
+after_earlier curve session start [] xs entry (place ∷ places) less run = run
+after_earlier curve session start (script ∷ scripts) xs entry [] less run = run
+after_earlier curve session start (script ∷ scripts) xs entry (place ∷ places) less run =
     let ne : entry.seat ≢ session = omega arith in
-    (run.0, running-others m session start script xs (entry ∷ []) place run.1 (ne, tt), after_earlier m (session + 1) start scripts xs entry places (omega arith) run.2)
+    (run.0, running-others curve session start script xs (entry ∷ []) place run.1 (ne, tt), after_earlier curve (session + 1) start scripts xs entry places (omega arith) run.2)
 
 -- One of these moves just its own place.
-after_own : (m : Marginals) (session : ℕ) (start : State) (scripts : List (List Line)) (xs : List Entry) (entry : Entry) (places : List Place) (i : ℕ) (place : Place) → entry.seat ≡ session + i →
-    slice_get places i ≡ Some place → next place ≡ Some entry.act → AreRunning m session start scripts xs places →
-    AreRunning m session start scripts (xs ++ entry ∷ []) (slice_set places i (went m (after (state_after start xs) entry) entry.answer place))
-after_own m session start scripts xs entry [] i place own at act run = absurd (cc)
-after_own m session start [] xs entry (q ∷ places) i place own at act run = absurd run
-after_own m session start (script ∷ scripts) xs entry (q ∷ places) zero place own at act run =
+after_own : (curve : Curve) (session : ℕ) (start : State) (scripts : List (List Line)) (xs : List Entry) (entry : Entry) (places : List Place) (i : ℕ) (place : Place) → entry.seat ≡ session + i →
+    slice_get places i ≡ Some place → next place ≡ Some entry.act → AreRunning curve session start scripts xs places →
+    AreRunning curve session start scripts (xs ++ entry ∷ []) (slice_set places i (went curve (after (state_after start xs) entry) entry.answer place))
+after_own curve session start scripts xs entry [] i place own at act run = absurd (cc)
+after_own curve session start [] xs entry (q ∷ places) i place own at act run = absurd run
+after_own curve session start (script ∷ scripts) xs entry (q ∷ places) zero place own at act run =
     let same : q ≡ place = cc in
     let seat : entry.seat ≡ session = omega arith in
-    let P : Place → Type 0 = λ p. IsRunning m session start script xs p in
-    (run.0, running-own m session start script xs entry place (subst P same run.1) seat act, after_earlier m (session + 1) start scripts xs entry places (omega arith) run.2)
-after_own m session start (script ∷ scripts) xs entry (q ∷ places) (suc i) place own at act run =
+    let P : Place → Type 0 = λ p. IsRunning curve session start script xs p in
+    (run.0, running-own curve session start script xs entry place (subst P same run.1) seat act, after_earlier curve (session + 1) start scripts xs entry places (omega arith) run.2)
+after_own curve session start (script ∷ scripts) xs entry (q ∷ places) (suc i) place own at act run =
     let ne : entry.seat ≢ session = omega arith in
-    (run.0, running-others m session start script xs (entry ∷ []) q run.1 (ne, tt), after_own m (session + 1) start scripts xs entry places i place (omega arith) at act run.2)
+    (run.0, running-others curve session start script xs (entry ∷ []) q run.1 (ne, tt), after_own curve (session + 1) start scripts xs entry places i place (omega arith) at act run.2)
 
 -- what each of them knows
-knows_at : (m : Marginals) (session : ℕ) (start : State) (scripts : List (List Line)) (xs : List Entry) (places : List Place) (i : ℕ) (place : Place) → IsClosed start → IsLegal start xs →
-    slice_get places i ≡ Some place → AreRunning m session start scripts xs places → Knows (count_of (state_after start xs)) place × Rests place
-knows_at m session start scripts xs [] i place closed legal at run = absurd (cc)
-knows_at m session start [] xs (q ∷ places) i place closed legal at run = absurd run
-knows_at m session start (script ∷ scripts) xs (q ∷ places) zero place closed legal at run =
+knows_at : (curve : Curve) (session : ℕ) (start : State) (scripts : List (List Line)) (xs : List Entry) (places : List Place) (i : ℕ) (place : Place) → IsClosed start → IsLegal start xs →
+    slice_get places i ≡ Some place → AreRunning curve session start scripts xs places → Knows (count_of (state_after start xs)) place × Rests place
+knows_at curve session start scripts xs [] i place closed legal at run = absurd (cc)
+knows_at curve session start [] xs (q ∷ places) i place closed legal at run = absurd run
+knows_at curve session start (script ∷ scripts) xs (q ∷ places) zero place closed legal at run =
     let same : q ≡ place = cc in
     let P : Place → Type 0 = λ p. Knows (count_of (state_after start xs)) p × Rests p in
-    subst P same (running_knows m session start script xs q closed run.0 legal run.1)
-knows_at m session start (script ∷ scripts) xs (q ∷ places) (suc i) place closed legal at run = knows_at m (session + 1) start scripts xs places i place closed legal at run.2
+    subst P same (running_knows curve session start script xs q closed run.0 legal run.1)
+knows_at curve session start (script ∷ scripts) xs (q ∷ places) (suc i) place closed legal at run = knows_at curve (session + 1) start scripts xs places i place closed legal at run.2
 
 -- A session's next act keeps the world sound.
-sound_act : (m : Marginals) (start : State) (scripts : List (List Line)) (world : World) (i : ℕ) (place : Place) (act : Act) → IsClosed start → IsSound m start scripts world → slice_get world.places i ≡ Some place →
-    next place ≡ Some act → IsSound m start scripts (world_after m (suc i) place (Some act) world)
-sound_act m start scripts world i place act closed sound at is =
+sound_act : (curve : Curve) (start : State) (scripts : List (List Line)) (world : World) (i : ℕ) (place : Place) (act : Act) → IsClosed start → IsSound curve start scripts world → slice_get world.places i ≡ Some place →
+    next place ≡ Some act → IsSound curve start scripts (world_after curve (suc i) place (Some act) world)
+sound_act curve start scripts world i place act closed sound at is =
     let entry : Entry = record { seat = suc i; act = act; answer = answer_of world.state act } in
-    let known = knows_at m 1 start scripts world.journal world.places i place closed sound.legal at sound.running in
+    let known = knows_at curve 1 start scripts world.journal world.places i place closed sound.legal at sound.running in
     let may = may_next (state_after start world.journal) place act known.0 known.1.fit is in
     let right : entry.answer ≡ answer_of (state_after start world.journal) act = ap (λ s. answer_of s act) sound.state in
     let now : after world.state entry ≡ after (state_after start world.journal) entry = ap (λ s. after s entry) sound.state in
-    let P : State → Type 0 = λ s. AreRunning m 1 start scripts (world.journal ++ entry ∷ []) (slice_set world.places i (went m s entry.answer place)) in
+    let P : State → Type 0 = λ s. AreRunning curve 1 start scripts (world.journal ++ entry ∷ []) (slice_set world.places i (went curve s entry.answer place)) in
     record {
       legal = IsLegal-append start world.journal (entry ∷ []) sound.legal (may, right, tt);
       state = now ∙ sym (state_after-append start world.journal (entry ∷ []));
-      running = subst P (sym now) (after_own m 1 start scripts world.journal entry world.places i place (omega arith) at is sound.running);
+      running = subst P (sym now) (after_own curve 1 start scripts world.journal entry world.places i place (omega arith) at is sound.running);
     }
 
-sound_next : (m : Marginals) (start : State) (scripts : List (List Line)) (world : World) (i : ℕ) (place : Place) (act : Option Act) → IsClosed start → IsSound m start scripts world → slice_get world.places i ≡ Some place →
-    next place ≡ act → IsSound m start scripts (world_after m (suc i) place act world)
-sound_next m start scripts world i place None closed sound at is = sound
-sound_next m start scripts world i place (Some act) closed sound at is = sound_act m start scripts world i place act closed sound at is
+sound_next : (curve : Curve) (start : State) (scripts : List (List Line)) (world : World) (i : ℕ) (place : Place) (act : Option Act) → IsClosed start → IsSound curve start scripts world → slice_get world.places i ≡ Some place →
+    next place ≡ act → IsSound curve start scripts (world_after curve (suc i) place act world)
+sound_next curve start scripts world i place None closed sound at is = sound
+sound_next curve start scripts world i place (Some act) closed sound at is = sound_act curve start scripts world i place act closed sound at is
 
-sound_place : (m : Marginals) (start : State) (scripts : List (List Line)) (world : World) (i : ℕ) (place : Option Place) → IsClosed start → IsSound m start scripts world → slice_get world.places i ≡ place →
-    IsSound m start scripts (advanced m (suc i) place world)
-sound_place m start scripts world i None closed sound at = sound
-sound_place m start scripts world i (Some place) closed sound at = sound_next m start scripts world i place (next place) closed sound at refl
+sound_place : (curve : Curve) (start : State) (scripts : List (List Line)) (world : World) (i : ℕ) (place : Option Place) → IsClosed start → IsSound curve start scripts world → slice_get world.places i ≡ place →
+    IsSound curve start scripts (advanced curve (suc i) place world)
+sound_place curve start scripts world i None closed sound at = sound
+sound_place curve start scripts world i (Some place) closed sound at = sound_next curve start scripts world i place (next place) closed sound at refl
 
 -- So does each turn,
-pub sound_turn : (m : Marginals) (start : State) (scripts : List (List Line)) (world : World) (session : ℕ) → IsClosed start → IsSound m start scripts world → IsSound m start scripts (turn m session world)
-sound_turn m start scripts world zero closed sound = sound
-sound_turn m start scripts world (suc i) closed sound = sound_place m start scripts world i (slice_get world.places i) closed sound refl
+pub sound_turn : (curve : Curve) (start : State) (scripts : List (List Line)) (world : World) (session : ℕ) → IsClosed start → IsSound curve start scripts world → IsSound curve start scripts (turn curve session world)
+sound_turn curve start scripts world zero closed sound = sound
+sound_turn curve start scripts world (suc i) closed sound = sound_place curve start scripts world i (slice_get world.places i) closed sound refl
 
 -- and each list of turns.
-pub sound_turns : (m : Marginals) (start : State) (scripts : List (List Line)) (turns : List ℕ) (world : World) → IsClosed start → IsSound m start scripts world → IsSound m start scripts (turns_taken m turns world)
-sound_turns m start scripts [] world closed sound = sound
-sound_turns m start scripts (session ∷ turns) world closed sound = sound_turns m start scripts turns (turn m session world) closed (sound_turn m start scripts world session closed sound)
+pub sound_turns : (curve : Curve) (start : State) (scripts : List (List Line)) (turns : List ℕ) (world : World) → IsClosed start → IsSound curve start scripts world → IsSound curve start scripts (turns_taken curve turns world)
+sound_turns curve start scripts [] world closed sound = sound
+sound_turns curve start scripts (session ∷ turns) world closed sound = sound_turns curve start scripts turns (turn curve session world) closed (sound_turn curve start scripts world session closed sound)
 
-begins_running : (m : Marginals) (start : State) (session : ℕ) (scripts : List (List Line)) → All AreFit scripts → AreRunning m session start scripts [] (begins m start session scripts)
-begins_running m start session [] fit = tt
-begins_running m start session (script ∷ scripts) fit =
-    (fit 0 script (omega arith), record { follows = tt; reached = refl }, begins_running m start (session + 1) scripts (λ i d within. fit (suc i) d (omega arith)))
+begins_running : (curve : Curve) (start : State) (session : ℕ) (scripts : List (List Line)) → All AreFit scripts → AreRunning curve session start scripts [] (begins curve start session scripts)
+begins_running curve start session [] fit = tt
+begins_running curve start session (script ∷ scripts) fit =
+    (fit 0 script (omega arith), record { follows = tt; reached = refl }, begins_running curve start (session + 1) scripts (λ i d within. fit (suc i) d (omega arith)))
 
 -- The world is sound at the beginning.
-pub sound_begun : (m : Marginals) (models : List StartModel) (scripts : List (List Line)) → All AreFit scripts → IsSound m (start_of models) scripts (begun m models scripts)
-sound_begun m models scripts fit = record { legal = tt; state = refl; running = begins_running m (start_of models) 1 scripts fit }
+pub sound_begun : (curve : Curve) (models : List StartModel) (scripts : List (List Line)) → All AreFit scripts → IsSound curve (start_of models) scripts (begun curve models scripts)
+sound_begun curve models scripts fit = record { legal = tt; state = refl; running = begins_running curve (start_of models) 1 scripts fit }
 
-pub turns_taken-append : (m : Marginals) (xs ys : List ℕ) (world : World) → turns_taken m (xs ++ ys) world ≡ turns_taken m ys (turns_taken m xs world)
-turns_taken-append m [] ys world = refl
-turns_taken-append m (x ∷ xs) ys world = turns_taken-append m xs ys (turn m x world)
+pub turns_taken-append : (curve : Curve) (xs ys : List ℕ) (world : World) → turns_taken curve (xs ++ ys) world ≡ turns_taken curve ys (turns_taken curve xs world)
+turns_taken-append curve [] ys world = refl
+turns_taken-append curve (x ∷ xs) ys world = turns_taken-append curve xs ys (turn curve x world)
 
 slice_get-seam : (front : List Place) (place : Place) (behind : List Place) → slice_get (front ++ place ∷ behind) (length front) ≡ Some place
 slice_get-seam [] place behind = refl
@@ -119,14 +120,14 @@ pub record HasLeft (world : World) (front behind : List Place) (count : ℕ) : T
   pub at : world.places ≡ front ++ place ∷ behind
   pub few : length place.left ≤ count
 
-act_shortens : (m : Marginals) (start : State) (scripts : List (List Line)) (world : World) (front behind : List Place) (count : ℕ) (place : Place) (act : Option Act) → IsClosed start → IsSound m start scripts world →
-    world.places ≡ front ++ place ∷ behind → length place.left ≤ suc count → next place ≡ act → HasLeft (world_after m (suc (length front)) place act world) front behind count
-act_shortens m start scripts world front behind count place act closed sound at few is =
+act_shortens : (curve : Curve) (start : State) (scripts : List (List Line)) (world : World) (front behind : List Place) (count : ℕ) (place : Place) (act : Option Act) → IsClosed start → IsSound curve start scripts world →
+    world.places ≡ front ++ place ∷ behind → length place.left ≤ suc count → next place ≡ act → HasLeft (world_after curve (suc (length front)) place act world) front behind count
+act_shortens curve start scripts world front behind count place act closed sound at few is =
     let here : slice_get world.places (length front) ≡ Some place = ap (λ ps. slice_get ps (length front)) at ∙ slice_get-seam front place behind in
-    let known = knows_at m 1 start scripts world.journal world.places (length front) place closed sound.legal here sound.running in
+    let known = knows_at curve 1 start scripts world.journal world.places (length front) place closed sound.legal here sound.running in
     shortened act is known.0 known.1
   where
-    shortened : (act : Option Act) → next place ≡ act → Knows (count_of (state_after start world.journal)) place → Rests place → HasLeft (world_after m (suc (length front)) place act world) front behind count
+    shortened : (act : Option Act) → next place ≡ act → Knows (count_of (state_after start world.journal)) place → Rests place → HasLeft (world_after curve (suc (length front)) place act world) front behind count
     shortened None none knows rests = record { place = place; at = at; few = omega (arith, ap (λ (lines : List Line). length lines) (rests.ends none)) }
     shortened (Some act) some knows rests =
         let entry : Entry = record { seat = suc (length front); act = act; answer = answer_of world.state act } in
@@ -134,28 +135,28 @@ act_shortens m start scripts world front behind count place act closed sound at 
         let C : State → Type 0 = λ s. IsClosed s in
         let knows_now = subst K (sym sound.state) knows in
         let closed_now = subst C (sym sound.state) (closed-after start world.journal sound.legal closed) in
-        let new = went_next m world.state place act entry.answer knows_now rests closed_now some refl in
-        let q = went m (after world.state entry) entry.answer place in
+        let new = went_next curve world.state place act entry.answer knows_now rests closed_now some refl in
+        let q = went curve (after world.state entry) entry.answer place in
         record {
           place = q;
           at = ap (λ ps. slice_set ps (length front) q) at ∙ set-append_seam front place behind q;
           few = omega (arith, new.2);
         }
 
-turn_shortens : (m : Marginals) (start : State) (scripts : List (List Line)) (world : World) (front behind : List Place) (count : ℕ) → IsClosed start → IsSound m start scripts world →
-    HasLeft world front behind (suc count) → HasLeft (turn m (suc (length front)) world) front behind count
-turn_shortens m start scripts world front behind count closed sound has =
+turn_shortens : (curve : Curve) (start : State) (scripts : List (List Line)) (world : World) (front behind : List Place) (count : ℕ) → IsClosed start → IsSound curve start scripts world →
+    HasLeft world front behind (suc count) → HasLeft (turn curve (suc (length front)) world) front behind count
+turn_shortens curve start scripts world front behind count closed sound has =
     let here : slice_get world.places (length front) ≡ Some has.place = ap (λ ps. slice_get ps (length front)) has.at ∙ slice_get-seam front has.place behind in
-    let P : Option Place → Type 0 = λ p. HasLeft (advanced m (suc (length front)) p world) front behind count in
-    subst P (sym here) (act_shortens m start scripts world front behind count has.place (next has.place) closed sound has.at has.few refl)
+    let P : Option Place → Type 0 = λ p. HasLeft (advanced curve (suc (length front)) p world) front behind count in
+    subst P (sym here) (act_shortens curve start scripts world front behind count has.place (next has.place) closed sound has.at has.few refl)
 
 -- as many turns as it has lines left bring it to its end
-pub turns_end : (m : Marginals) (start : State) (scripts : List (List Line)) (count : ℕ) (world : World) (front behind : List Place) → IsClosed start → IsSound m start scripts world →
-    HasLeft world front behind count → HasLeft (turns_taken m (replicate count (suc (length front))) world) front behind 0
-turns_end m start scripts zero world front behind closed sound has = has
-turns_end m start scripts (suc count) world front behind closed sound has =
+pub turns_end : (curve : Curve) (start : State) (scripts : List (List Line)) (count : ℕ) (world : World) (front behind : List Place) → IsClosed start → IsSound curve start scripts world →
+    HasLeft world front behind count → HasLeft (turns_taken curve (replicate count (suc (length front))) world) front behind 0
+turns_end curve start scripts zero world front behind closed sound has = has
+turns_end curve start scripts (suc count) world front behind closed sound has =
     let session = suc (length front) in
-    turns_end m start scripts count (turn m session world) front behind closed (sound_turn m start scripts world session closed sound) (turn_shortens m start scripts world front behind count closed sound has)
+    turns_end curve start scripts count (turn curve session world) front behind closed (sound_turn curve start scripts world session closed sound) (turn_shortens curve start scripts world front behind count closed sound has)
 
 pub no_lines : (lines : List Line) → length lines ≤ 0 → lines ≡ []
 no_lines [] few = refl
@@ -170,40 +171,38 @@ done-append [] place done own = (own, tt)
 done-append (p ∷ places) place done own = (done.0, done-append places place done.1 own)
 
 -- the last turns bring the sessions behind the first ones to their ends
-last_turns_end : (m : Marginals) (start : State) (scripts : List (List Line)) (behind : List Place) (world : World) (front : List Place) (session : ℕ) → IsClosed start → IsSound m start scripts world →
-    session ≡ suc (length front) → AreDone front → world.places ≡ front ++ behind → AreDone (turns_taken m (last_turns session behind) world).places
-last_turns_end m start scripts [] world front session closed sound number done at = let P : List Place → Type 0 = λ ps. AreDone ps in subst P (sym (at ∙ append-nil front)) done
-last_turns_end m start scripts (place ∷ behind) world front session closed sound number done at =
-    let turns = replicate (length place.left) session in
-    let here : HasLeft world front behind (length place.left) = record { place = place; at = at; few = omega arith } in
-    let T : ℕ → Type 0 = λ s. HasLeft (turns_taken m (replicate (length place.left) s) world) front behind 0 in
-    let end = subst T (sym number) (turns_end m start scripts (length place.left) world front behind closed sound here) in
-    let now = turns_taken m turns world in
+last_turns_end : (curve : Curve) (start : State) (scripts : List (List Line)) (behind : List Place) (world : World) (front : List Place) (session : ℕ) → IsClosed start → IsSound curve start scripts world →
+    session ≡ suc (length front) → AreDone front → world.places ≡ front ++ behind → AreDone (turns_taken curve (last_turns session behind) world).places
+last_turns_end curve start scripts [] world front session closed sound number done at = let P : List Place → Type 0 = λ ps. AreDone ps in subst P (sym (at ∙ append-nil front)) done
+last_turns_end curve start scripts (place ∷ behind) world front session closed sound number done at =
+    let turns = replicate (length place.left + 1) session in
+    let here : HasLeft world front behind (length place.left + 1) = record { place = place; at = at; few = omega arith } in
+    let T : ℕ → Type 0 = λ s. HasLeft (turns_taken curve (replicate (length place.left + 1) s) world) front behind 0 in
+    let end = subst T (sym number) (turns_end curve start scripts (length place.left + 1) world front behind closed sound here) in
+    let now = turns_taken curve turns world in
     let D : World → Type 0 = λ w. AreDone w.places in
-    subst D (sym (turns_taken-append m turns (last_turns (session + 1) behind) world))
-    (last_turns_end m start scripts behind now (front ++ end.place ∷ []) (session + 1) closed (sound_turns m start scripts turns world closed sound)
+    subst D (sym (turns_taken-append curve turns (last_turns (session + 1) behind) world))
+    (last_turns_end curve start scripts behind now (front ++ end.place ∷ []) (session + 1) closed (sound_turns curve start scripts turns world closed sound)
     (omega (arith, length-append front (end.place ∷ []))) (done-append front end.place done (no_lines end.place.left end.few)) (end.at ∙ sym (append_assoc front (end.place ∷ []) behind)))
 
 -- sessions that are done are whole
-whole_done : (m : Marginals) (session : ℕ) (start : State) (scripts : List (List Line)) (xs : List Entry) (places : List Place) → IsClosed start → IsLegal start xs → AreRunning m session start scripts xs places → AreDone places →
-    AreWhole m session start scripts xs (transcripts_of session places)
-whole_done m session start [] xs [] closed legal run done = tt
-whole_done m session start [] xs (place ∷ places) closed legal run done = absurd run
-whole_done m session start (script ∷ scripts) xs [] closed legal run done = absurd run
-whole_done m session start (script ∷ scripts) xs (place ∷ places) closed legal run done =
-    let known = running_knows m session start script xs place closed run.0 legal run.1 in (
-      record { place = place; running = run.1; ended = (done.0, known.0.going); written = refl },
-      whole_done m (session + 1) start scripts xs places closed legal run.2 done.1,
-    )
+whole_done : (curve : Curve) (session : ℕ) (start : State) (scripts : List (List Line)) (xs : List Entry) (places : List Place) → IsClosed start → IsLegal start xs → AreRunning curve session start scripts xs places → AreDone places →
+    AreWhole curve session start scripts xs places
+whole_done curve session start [] xs [] closed legal run done = tt
+whole_done curve session start [] xs (place ∷ places) closed legal run done = absurd run
+whole_done curve session start (script ∷ scripts) xs [] closed legal run done = absurd run
+whole_done curve session start (script ∷ scripts) xs (place ∷ places) closed legal run done =
+    let known = running_knows curve session start script xs place closed run.0 legal run.1 in
+    (run.1, (done.0, known.0.going), whole_done curve (session + 1) start scripts xs places closed legal run.2 done.1)
 
 -- Whatever the turns are, the journal is legal and each session runs to its end.
 pub each_runs_to_its_end : EachRunsToItsEnd
-each_runs_to_its_end m models scripts turns fit =
+each_runs_to_its_end curve models scripts turns fit =
     let start = start_of models in
     let closed = start-closed models in
-    let met = turns_taken m turns (begun m models scripts) in
-    let sound = sound_turns m start scripts turns (begun m models scripts) closed (sound_begun m models scripts fit) in
-    let end = sound_turns m start scripts (last_turns 1 met.places) met closed sound in
-    let done = last_turns_end m start scripts met.places met [] 1 closed sound refl tt refl in
-    let last = run_out m met in
-    (end.legal, whole_done m 1 start scripts last.journal last.places closed end.legal end.running done)
+    let met = turns_taken curve turns (begun curve models scripts) in
+    let sound = sound_turns curve start scripts turns (begun curve models scripts) closed (sound_begun curve models scripts fit) in
+    let end = sound_turns curve start scripts (last_turns 1 met.places) met closed sound in
+    let done = last_turns_end curve start scripts met.places met [] 1 closed sound refl tt refl in
+    let last = run_out curve met in
+    (end.legal, whole_done curve 1 start scripts last.journal last.places closed end.legal end.running done)

@@ -16,6 +16,11 @@ pub IsLegal-append : (state : State) (xs ys : List Entry) → IsLegal state xs �
 IsLegal-append state [] ys first then = then
 IsLegal-append state (x ∷ xs) ys first then = (first.0, first.1, IsLegal-append (after state x) xs ys first.2 then)
 
+-- its first entries are legal
+pub IsLegal-front : (state : State) (xs ys : List Entry) → IsLegal state (xs ++ ys) → IsLegal state xs
+IsLegal-front state [] ys legal = tt
+IsLegal-front state (x ∷ xs) ys legal = (legal.0, legal.1, IsLegal-front (after state x) xs ys legal.2)
+
 -- a version that may be missing is below a count
 abbrev pub IsBelow : ℕ → Option ℕ → Type 0
 IsBelow count None = Unit {0}

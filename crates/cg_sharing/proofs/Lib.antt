@@ -6,3 +6,4 @@ pub mod ReachLemmas
 pub mod InterleavingLemmas
 pub mod CourseCases
 pub mod CoverLemmas
+pub mod TurnLemmas

@@ -1,4 +1,5 @@
--- What a session does with its script: the acts, one at a time, and what it writes. chron's own.
+-- What a session does with its script: the acts, one at a time, and what it writes. One curve serves all radiocarbon
+-- dates; it has no rows where there is none. chron's own.
 use Rattle.std.specs.Prelude.{◌≡◌, ◌≢◌, ◌⊎◌, ℕ, ◌+◌, ◌<◌, nat_eq, Bool, true, false, ◌&&◌, is_some, List, [], ◌∷◌, ◌++◌, length, take, drop, slice_get, bytes_eq, Option, Some, None, option_map, Result, Ok, Err, ℤ, pos, int_le, unsigned_abs, if◌then◌else◌}
 use Rattle.std.specs.List.{All}
 use Rattle.cg_meaning.specs.Tree.{Name, Tree, Trees, datings_of, nodes_of_all, Chronology, root_of}
@@ -18,19 +19,14 @@ use Rattle.cg_sharing.specs.Versions.{State, Head, head_of, chronology_of}
 use Rattle.cg_sharing.specs.Journal as journal
 use Rattle.cg_sharing.specs.Journal.{Act, Answer, Entry, after, state_after, IsInOrder}
 use Rattle.cg_sharing.specs.Texts as texts
-use Rattle.cg_sharing.specs.Texts.{Cause, session_line, end_line, stopped_line, at_line, made_line, committed_line, refused_line, grid_line, marginal_lines}
-
--- The marginals that sessions print: by the curve that serves all radiocarbon dates, without rows where there is none; and
--- of a tree in a scene and an event, a pair for each cell, or nothing where it is impossible.
-pub record Marginals : Type 0 where
-  pub curve : Curve
-  pub of : Tree → Scene → ℕ → Option (List (ℕ × ℕ))
+use Rattle.cg_sharing.specs.Texts.{Cause, session_line, end_line, stopped_line, at_line, made_line, committed_line, refused_line, grid_line}
+use Rattle.cg_sharing.specs.Pieces.{Piece, Lines, Marginal, Marginals, text_of}
 
 -- Where a session is: the lines of its script that are left, what it has written, its version, its grid, the version
 -- that it last opened or committed by each name, and whether want of memory has stopped it.
 pub record Place : Type 0 where
   pub left : List Line
-  pub text : List ℕ
+  pub written : List Piece
   pub version : Option ℕ
   pub grid : Option Grid
   pub bases : List Head
@@ -54,8 +50,11 @@ first_act place (line ∷ lines) = act_of place line.command
 abbrev pub next : Place → Option Act
 next place = first_act place place.left
 
+abbrev pub with_piece : Piece → Place → Place
+with_piece piece place = record place { written = place.written ++ piece ∷ [] }
+
 abbrev pub told : List ℕ → Place → Place
-told text place = record place { text = place.text ++ text }
+told text place = with_piece (Lines text) place
 
 abbrev pub refused : ℕ → Cause → Place → Place
 refused number cause place = told (refused_line number cause) place
@@ -104,40 +103,41 @@ weighed scene tree (Err fault) = Err (texts.Fault fault)
 abbrev pub event_in : Scene → Name → Chronology → Result ℕ Cause
 event_in scene name chronology = weighed scene (root_of chronology) (event_of name chronology.top)
 
--- the lines of a print of a tree's version
-abbrev pub event_lines : Marginals → ℕ → Name → ℕ → Scene → Tree → Result ℕ Cause → List ℕ
-event_lines marginals number name version scene tree (Ok event) = marginal_lines scene.grid name version (marginals.of tree scene event)
-event_lines marginals number name version scene tree (Err cause) = refused_line number cause
+-- what a print of a version's model writes
+abbrev pub event_piece : ℕ → Name → ℕ → Chronology → Scene → Result ℕ Cause → Piece
+event_piece number name version chronology scene (Ok event) =
+    Marginal (record { name = name; version = version; chronology = chronology; scene = scene; event = event })
+event_piece number name version chronology scene (Err cause) = Lines (refused_line number cause)
 
--- the lines of a print, where the versions are these
-abbrev pub print_lines : Marginals → State → ℕ → Name → Option ℕ → Option Grid → List ℕ
-print_lines marginals state number name None grid = refused_line number texts.NotOpen
-print_lines marginals state number name (Some version) None = refused_line number texts.NoGrid
-print_lines marginals state number name (Some version) (Some grid) =
-    let scene = scene_of grid marginals.curve in let chronology = chronology_of state version in
-    event_lines marginals number name version scene (root_of chronology) (event_in scene name chronology)
+-- what a print writes, where the versions are these
+abbrev pub print_piece : Curve → State → ℕ → Name → Option ℕ → Option Grid → Piece
+print_piece curve state number name None grid = Lines (refused_line number texts.NotOpen)
+print_piece curve state number name (Some version) None = Lines (refused_line number texts.NoGrid)
+print_piece curve state number name (Some version) (Some grid) =
+    let chronology = chronology_of state version in
+    event_piece number name version chronology (scene_of grid curve) (event_in (scene_of grid curve) name chronology)
 
 -- a command that makes no act: a grid, a print, or one that needs a version where there is none
-abbrev pub done_at : Marginals → State → ℕ → Command → Place → Place
-done_at marginals state number (command.Grid older younger) place = with_grid number (grid_of older younger) place
-done_at marginals state number (command.Print name) place =
-    told (print_lines marginals state number name place.version place.grid) place
-done_at marginals state number other place = refused number texts.NotOpen place
+abbrev pub done_at : Curve → State → ℕ → Command → Place → Place
+done_at curve state number (command.Grid older younger) place = with_grid number (grid_of older younger) place
+done_at curve state number (command.Print name) place =
+    with_piece (print_piece curve state number name place.version place.grid) place
+done_at curve state number other place = refused number texts.NotOpen place
 
 -- the place once these lines are left and the commands up to the next act are done
-abbrev pub settled : Marginals → State → List Line → Place → Place
-settled marginals state [] place = record place { left = [] }
-settled marginals state (line ∷ lines) place =
+abbrev pub settled : Curve → State → List Line → Place → Place
+settled curve state [] place = record place { left = [] }
+settled curve state (line ∷ lines) place =
     if is_some (act_of place line.command) then record place { left = line ∷ lines }
-    else settled marginals state lines (done_at marginals state line.number line.command place)
+    else settled curve state lines (done_at curve state line.number line.command place)
 
 -- where the session of a number begins
 abbrev pub entrance_of : ℕ → Place
 entrance_of session =
-    record { left = []; text = session_line session; version = None; grid = None; bases = []; stopped = false }
+    record { left = []; written = Lines (session_line session) ∷ []; version = None; grid = None; bases = []; stopped = false }
 
-abbrev pub begin : Marginals → ℕ → State → List Line → Place
-begin marginals session start script = settled marginals start script (entrance_of session)
+abbrev pub begin : Curve → ℕ → State → List Line → Place
+begin curve session start script = settled curve start script (entrance_of session)
 
 -- the bases once a name has this one
 abbrev pub with_base : Name → ℕ → List Head → List Head
@@ -164,23 +164,23 @@ answered line journal.NoParent place = refused line.number texts.NoParent place
 answered line (journal.Refused fault) place = refused line.number (texts.Fault fault) place
 answered line (journal.Moved head) place = refused line.number (texts.Moved head) place
 
-abbrev pub went_on : Marginals → State → List Line → Answer → Place → Place
-went_on marginals state [] answer place = place
-went_on marginals state (line ∷ lines) answer place = settled marginals state lines (answered line answer place)
+abbrev pub went_on : Curve → State → List Line → Answer → Place → Place
+went_on curve state [] answer place = place
+went_on curve state (line ∷ lines) answer place = settled curve state lines (answered line answer place)
 
 -- the place after the answer to the next act; the state is that after the entry
-abbrev pub went : Marginals → State → Answer → Place → Place
-went marginals state answer place = went_on marginals state place.left answer place
+abbrev pub went : Curve → State → Answer → Place → Place
+went curve state answer place = went_on curve state place.left answer place
 
 -- the place after an entry, which only the session's own seat moves
-abbrev pub moved : Marginals → ℕ → State → Entry → Place → Place
-moved marginals session state entry place = if nat_eq entry.seat session then went marginals state entry.answer place else place
+abbrev pub moved : Curve → ℕ → State → Entry → Place → Place
+moved curve session state entry place = if nat_eq entry.seat session then went curve state entry.answer place else place
 
 -- the place after the entries of all seats, from this state on
-abbrev pub walk : Marginals → ℕ → State → Place → List Entry → Place
-walk marginals session state place [] = place
-walk marginals session state place (entry ∷ entries) =
-    walk marginals session (after state entry) (moved marginals session (after state entry) entry place) entries
+abbrev pub walk : Curve → ℕ → State → Place → List Entry → Place
+walk curve session state place [] = place
+walk curve session state place (entry ∷ entries) =
+    walk curve session (after state entry) (moved curve session (after state entry) entry place) entries
 
 -- none of the entries is of the session's seat
 abbrev pub AreOthers : ℕ → List Entry → Type 0
@@ -188,55 +188,55 @@ AreOthers session [] = Unit {0}
 AreOthers session (entry ∷ entries) = (entry.seat ≢ session) × AreOthers session entries
 
 -- each entry of the session's seat is its next act
-abbrev pub Follows : Marginals → ℕ → State → Place → List Entry → Type 0
-Follows marginals session state place [] = Unit {0}
-Follows marginals session state place (entry ∷ entries) =
+abbrev pub Follows : Curve → ℕ → State → Place → List Entry → Type 0
+Follows curve session state place [] = Unit {0}
+Follows curve session state place (entry ∷ entries) =
     (entry.seat ≡ session → next place ≡ Some entry.act)
-    × Follows marginals session (after state entry) (moved marginals session (after state entry) entry place) entries
+    × Follows curve session (after state entry) (moved curve session (after state entry) entry place) entries
 
 -- all of the script is done
 abbrev pub IsEnded : Place → Type 0
 IsEnded place = (place.left ≡ []) × (place.stopped ≡ false)
 
 -- The journal's entries of the session's seat are acts of its script, and this is where they lead.
-pub record IsRunning (marginals : Marginals) (session : ℕ) (start : State) (script : List Line) (entries : List Entry) (place : Place) : Type 0 where
-  pub follows : Follows marginals session start (begin marginals session start script) entries
-  pub reached : place ≡ walk marginals session start (begin marginals session start script) entries
+pub record IsRunning (curve : Curve) (session : ℕ) (start : State) (script : List Line) (entries : List Entry) (place : Place) : Type 0 where
+  pub follows : Follows curve session start (begin curve session start script) entries
+  pub reached : place ≡ walk curve session start (begin curve session start script) entries
 
 -- The session has done these lines and stands here: whatever lines come after them, its course goes on from here.
-abbrev pub Reaches : Marginals → ℕ → State → List Line → List Entry → Place → Type 0
-Reaches marginals session start did entries place =
-    (rest : List Line) → IsRunning marginals session start (did ++ rest) entries (settled marginals (state_after start entries) rest place)
+abbrev pub Reaches : Curve → ℕ → State → List Line → List Entry → Place → Type 0
+Reaches curve session start did entries place =
+    (rest : List Line) → IsRunning curve session start (did ++ rest) entries (settled curve (state_after start entries) rest place)
 
 -- the place once want of memory stops the session
 abbrev pub stopped_at : Place → Place
 stopped_at place = record place { left = []; stopped = true }
 
 -- Want of memory stopped the session after some entries and some commands, before the last one was done; what follows
--- are acts of a stopped session.
-pub record IsStopped (marginals : Marginals) (session : ℕ) (start : State) (script : List Line) (entries : List Entry) (place : Place) : Type 0 where
+-- are entries of other seats.
+pub record IsStopped (curve : Curve) (session : ℕ) (start : State) (script : List Line) (entries : List Entry) (place : Place) : Type 0 where
   pub commands : ℕ
   pub earlier : List Entry
   pub later : List Entry
   pub last : Place
-  pub running : IsRunning marginals session start (take commands script) earlier last
+  pub running : IsRunning curve session start (take commands script) earlier last
   pub unfinished : 0 < length last.left + length (drop commands script)
-  pub follows : Follows marginals session (state_after start earlier) (stopped_at last) later
-  pub reached : place ≡ walk marginals session (state_after start earlier) (stopped_at last) later
+  pub others : AreOthers session later
+  pub reached : place ≡ stopped_at last
   pub all : entries ≡ earlier ++ later
 
 -- The journal's entries of the session's seat are those of a course of its script, and this is where they lead.
-abbrev pub IsCourse : Marginals → ℕ → State → List Line → List Entry → Place → Type 0
-IsCourse marginals session start script entries place =
-    IsRunning marginals session start script entries place ⊎ IsStopped marginals session start script entries place
+abbrev pub IsCourse : Curve → ℕ → State → List Line → List Entry → Place → Type 0
+IsCourse curve session start script entries place =
+    IsRunning curve session start script entries place ⊎ IsStopped curve session start script entries place
 
 abbrev pub last_line : Bool → ℕ → List ℕ
 last_line false session = end_line session
 last_line true session = stopped_line session
 
 -- all that a session writes which ends at this place
-abbrev pub transcript_of : ℕ → Place → List ℕ
-transcript_of session place = place.text ++ last_line place.stopped session
+abbrev pub transcript_of : Marginals → ℕ → Place → List ℕ
+transcript_of marginals session place = text_of marginals place.written ++ last_line place.stopped session
 
 -- what a command brings is in order: the years of a grid, a change, and the name of an event to be printed
 abbrev pub IsFit : Command → Type 0

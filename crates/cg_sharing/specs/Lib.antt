@@ -3,5 +3,6 @@ pub mod Versions
 pub mod Journal
 pub mod Command
 pub mod Texts
+pub mod Pieces
 pub mod Course
 pub mod Interleaving

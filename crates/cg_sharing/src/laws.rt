@@ -1,7 +1,17 @@
-ghost use Rattle.cg_sharing.specs.Interleaving.{EachRunsToItsEnd};
+ghost use Rattle.cg_sharing.specs.Interleaving.{EachRunsToItsEnd, TurnsDecide, EntriesAreOfSessions};
 
 /// The law that whatever turns the sessions take, the journal is legal, and each session runs to its end in a course of
 /// its own script, with that course's transcript. Does nothing.
 pub fn each_session_runs_to_its_end()
     ensures { EachRunsToItsEnd }
+{}
+
+/// The law that the turns decide the journal and where each session ends, where want of memory stops none. Does nothing.
+pub fn turns_decide()
+    ensures { TurnsDecide }
+{}
+
+/// The law that each entry of the journal is of one of the sessions, whichever of them want of memory stops. Does nothing.
+pub fn entries_are_of_sessions()
+    ensures { EntriesAreOfSessions }
 {}

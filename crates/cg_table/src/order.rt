@@ -28,7 +28,8 @@ pub fn then_row<L: Ledger>(p: &Tri, w: &Row, steps: &mut Steps<L>) -> Result<Tri
         IfOk result (λ t. table_loss t ≤ table_loss p.now + greatest_loss w.now + 2 ^ 13) }
     ensures reach { p.now.cells ≤ 512 →
         IfOk result (λ t. table_reach t ≤ table_reach p.now + greatest_reach w.now + 1) }
-    ensures ticks { 2 * steps.new ≤ 2 * steps.old + p.now.cells * (p.now.cells + 1) }
+    ensures ticks { OnOk result (2 * steps.new ≡ 2 * steps.old + p.now.cells * (p.now.cells + 1)) }
+    ensures at_most { 2 * steps.new ≤ 2 * steps.old + p.now.cells * (p.now.cells + 1) }
 {
     filled_then_row(p, w, steps)
 }
@@ -38,7 +39,8 @@ fn filled_then_row<L: Ledger>(p: &Tri, w: &Row, steps: &mut Steps<L>) -> Result<
     requires reach { table_reach p.now + greatest_reach w.now < 2 ^ 20 }
     ensures value { IfOk result (λ t. t ≡ then_row_of p.now w.now) }
     ensures operands { IsTable p.now × AreEntries w.now }
-    ensures ticks { steps.new ≤ steps.old + start p.now.cells p.now.cells }
+    ensures ticks { OnOk result (steps.new ≡ steps.old + start p.now.cells p.now.cells) }
+    ensures at_most { steps.new ≤ steps.old + start p.now.cells p.now.cells }
 {
     let cells = p.cells();
     let mut entries = Vec::new(p.allocator());
@@ -60,7 +62,8 @@ fn push_then_row<L: Ledger>(
     requires reach { table_reach p.now + greatest_reach w.now < 2 ^ 20 }
     ensures row { OnOk result (entries.new.items ≡ entries.old.items
         ++ row p.now.cells (then_row_entry (entry p.now) (row_entry w.now)) a) }
-    ensures ticks { steps.new ≤ steps.old + (p.now.cells - a) }
+    ensures ticks { OnOk result (steps.new ≡ steps.old + (p.now.cells - a)) }
+    ensures at_most { steps.new ≤ steps.old + (p.now.cells - a) }
 {
     let mut sum = Enc::zero();
     for b in a..p.cells() {

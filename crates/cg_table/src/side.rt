@@ -24,7 +24,8 @@ pub fn beside<L: Ledger>(s: &Tri, t: &Tri, steps: &mut Steps<L>) -> Result<Tri, 
         IfOk result (λ r. table_loss r ≤ table_loss s.now + table_loss t.now + 2 ^ 13) }
     ensures reach { s.now.cells ≤ 512 →
         IfOk result (λ r. table_reach r ≤ table_reach s.now + table_reach t.now + 1) }
-    ensures ticks { steps.new ≤ steps.old + s.now.cells * (s.now.cells + 1) }
+    ensures ticks { OnOk result (steps.new ≡ steps.old + s.now.cells * (s.now.cells + 1)) }
+    ensures at_most { steps.new ≤ steps.old + s.now.cells * (s.now.cells + 1) }
 {
     filled_beside(s, t, steps)
 }
@@ -34,7 +35,8 @@ fn filled_beside<L: Ledger>(s: &Tri, t: &Tri, steps: &mut Steps<L>) -> Result<Tr
     requires reach { table_reach s.now + table_reach t.now < 2 ^ 20 }
     ensures value { IfOk result (λ r. r ≡ beside_of s.now t.now) }
     ensures operands { IsTable s.now × IsTable t.now }
-    ensures ticks { steps.new ≤ steps.old + 2 * start s.now.cells s.now.cells }
+    ensures ticks { OnOk result (steps.new ≡ steps.old + 2 * start s.now.cells s.now.cells) }
+    ensures at_most { steps.new ≤ steps.old + 2 * start s.now.cells s.now.cells }
 {
     let cells = s.cells();
     let mut entries = Vec::new(s.allocator());
@@ -56,7 +58,8 @@ fn push_beside<L: Ledger>(
     requires reach { table_reach s.now + table_reach t.now < 2 ^ 20 }
     ensures row { OnOk result (entries.new.items ≡ entries.old.items
         ++ row s.now.cells (beside_entry (entry s.now) (entry t.now)) a) }
-    ensures ticks { steps.new ≤ steps.old + 2 * (s.now.cells - a) }
+    ensures ticks { OnOk result (steps.new ≡ steps.old + 2 * (s.now.cells - a)) }
+    ensures at_most { steps.new ≤ steps.old + 2 * (s.now.cells - a) }
 {
     let mut before = Enc::zero();
     let mut reached = Enc::zero();

@@ -30,7 +30,8 @@ pub fn spanned<L: Ledger>(m: &Tri, n: u32, steps: &mut Steps<L>) -> Result<Tri, 
         IfOk result (λ r. table_loss r ≤ table_loss m.now + 2 ^ 13) }
     ensures reach { m.now.cells ≤ 512 → n ≤ 100 →
         IfOk result (λ r. table_reach r ≤ table_reach m.now + 1) }
-    ensures ticks { 2 * steps.new ≤ 2 * steps.old + m.now.cells * (m.now.cells + 1) + 2 * (m.now.cells * n) }
+    ensures ticks { OnOk result (2 * steps.new ≡ 2 * steps.old + m.now.cells * (m.now.cells + 1) + 2 * (m.now.cells * n)) }
+    ensures at_most { 2 * steps.new ≤ 2 * steps.old + m.now.cells * (m.now.cells + 1) + 2 * (m.now.cells * n) }
 {
     filled_spanned(m, n, steps)
 }
@@ -39,7 +40,8 @@ fn filled_spanned<L: Ledger>(m: &Tri, n: u32, steps: &mut Steps<L>) -> Result<Tr
     requires { table_reach m.now < 2 ^ 20 }
     ensures value { IfOk result (λ r. r ≡ spanned_of m.now n) }
     ensures operand { IsTable m.now }
-    ensures ticks { steps.new ≤ steps.old + start m.now.cells m.now.cells + m.now.cells * n }
+    ensures ticks { OnOk result (steps.new ≡ steps.old + start m.now.cells m.now.cells + m.now.cells * n) }
+    ensures at_most { steps.new ≤ steps.old + start m.now.cells m.now.cells + m.now.cells * n }
 {
     let cells = m.cells();
     let powers = powers(m.allocator(), cells, n, steps)?;
@@ -59,7 +61,8 @@ fn powers<L: Ledger>(
 ) -> Result<Vec<Enc>, NoMemory>
     requires { cells < 2 ^ 33 }
     ensures value { IfOk result (λ v. v.items ≡ map (λ s. span_power (s + 1) n) (range_with_len 0 cells)) }
-    ensures ticks { steps.new ≤ steps.old + cells * n }
+    ensures ticks { OnOk result (steps.new ≡ steps.old + cells * n) }
+    ensures at_most { steps.new ≤ steps.old + cells * n }
 {
     let mut powers = Vec::new(alloc);
     for passed in 0..cells {
@@ -108,7 +111,8 @@ fn push_spanned<L: Ledger>(
     requires powers { powers.now ≡ map (λ s. span_power (s + 1) n) (range_with_len 0 m.now.cells) }
     ensures row { OnOk result (entries.new.items ≡ entries.old.items
         ++ row m.now.cells (spanned_entry (entry m.now) n) a) }
-    ensures ticks { steps.new ≤ steps.old + (m.now.cells - a) }
+    ensures ticks { OnOk result (steps.new ≡ steps.old + (m.now.cells - a)) }
+    ensures at_most { steps.new ≤ steps.old + (m.now.cells - a) }
 {
     let mut sum = Enc::zero();
     for b in a..m.cells() {

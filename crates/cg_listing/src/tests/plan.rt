@@ -3,10 +3,9 @@ ghost use Rattle.std.specs.Prelude.{IfOk, All};
 ghost use Rattle.cg_meaning.specs.Tree.{datings_of};
 ghost use Rattle.cg_model.specs.Limits.{IsInPlace, AreInPlace, IsInRange, AreInRange};
 ghost use Rattle.cg_model.specs.Node.{tree_of, trees_of};
-ghost use Rattle.cg_listing.specs.Step.{kind_of};
+ghost use Rattle.cg_model.specs.Group.{kind_in};
 
-use crate::path::Kind;
-use cg_model::{Dating, Members, ModelTree, Name, Node};
+use cg_model::{Dating, GroupKind, Members, ModelTree, Name, Node};
 use cg_num::Year;
 use std::alloc::Global;
 use std::test::Fail;
@@ -24,12 +23,12 @@ pub(crate) enum Plan<'a> {
 }
 
 pub(crate) fn model_of(alloc: Global, top: &[Plan]) -> Result<ModelTree, Fail> {
-    Ok(ModelTree::new(None, members_of(alloc, Kind::Phase, top)?)?)
+    Ok(ModelTree::new(None, members_of(alloc, GroupKind::Phase, top)?)?)
 }
 
 #[cycle(plans)]
-fn members_of(alloc: Global, kind: Kind, plans: &[Plan]) -> Result<Members, Fail>
-    ensures placed { IfOk result (λ members. AreInPlace (kind_of kind) (trees_of members)) }
+fn members_of(alloc: Global, kind: GroupKind, plans: &[Plan]) -> Result<Members, Fail>
+    ensures placed { IfOk result (λ members. AreInPlace (kind_in kind) (trees_of members)) }
     ensures ranged { IfOk result (λ members. AreInRange (trees_of members)) }
 {
     let mut members = Members::new(alloc);
@@ -40,8 +39,8 @@ fn members_of(alloc: Global, kind: Kind, plans: &[Plan]) -> Result<Members, Fail
 }
 
 #[cycle(plans)]
-fn node_of(alloc: Global, parent: Kind, plan: &Plan) -> Result<Node, Fail>
-    ensures placed { IfOk result (λ node. IsInPlace (kind_of parent) (tree_of node)) }
+fn node_of(alloc: Global, parent: GroupKind, plan: &Plan) -> Result<Node, Fail>
+    ensures placed { IfOk result (λ node. IsInPlace (kind_in parent) (tree_of node)) }
     ensures ranged { IfOk result (λ node. All IsInRange (datings_of (tree_of node))) }
 {
     let name = Name::new(alloc, "")?;
@@ -51,14 +50,14 @@ fn node_of(alloc: Global, parent: Kind, plan: &Plan) -> Result<Node, Fail>
             let year = Year::of_bp(*bp as i64).ok_or("no year")?;
             Ok(Node::Leaf(name, Dating::Exact(year)))
         }
-        Plan::Boundary if parent == Kind::Sequence => Ok(Node::Boundary(name)),
+        Plan::Boundary if parent == GroupKind::Sequence => Ok(Node::Boundary(name)),
         Plan::Boundary => Err("a Boundary outside a Sequence")?,
         Plan::Sequence(plans) => Ok(Node::Sequence(
             name,
-            members_of(alloc, Kind::Sequence, plans)?,
+            members_of(alloc, GroupKind::Sequence, plans)?,
         )),
-        Plan::Phase(plans) => Ok(Node::Phase(name, members_of(alloc, Kind::Phase, plans)?)),
-        Plan::After(plans) => Ok(Node::After(name, members_of(alloc, Kind::After, plans)?)),
-        Plan::Before(plans) => Ok(Node::Before(name, members_of(alloc, Kind::Before, plans)?)),
+        Plan::Phase(plans) => Ok(Node::Phase(name, members_of(alloc, GroupKind::Phase, plans)?)),
+        Plan::After(plans) => Ok(Node::After(name, members_of(alloc, GroupKind::After, plans)?)),
+        Plan::Before(plans) => Ok(Node::Before(name, members_of(alloc, GroupKind::Before, plans)?)),
     }
 }

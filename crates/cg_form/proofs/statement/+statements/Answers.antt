@@ -4,7 +4,7 @@ use Rattle.cg_meaning.specs.Tree as spec
 use Rattle.cg_model.specs.Dating.{dating_of}
 use Rattle.cg_model.specs.Node.{trees_of}
 use Rattle.cg_model.proofs.NodeLemmas.{tree_of-Leaf, tree_of-Boundary}
-use Rattle.cg_form.specs.Kind.{kind_in}
+use Rattle.cg_model.specs.Group.{kind_in}
 use Rattle.cg_form.specs.Reading.{statement_at}
 use Rattle.cg_form.proofs.StepLemmas.{same-fault}
 use Rattle.cg_form.proofs.StatementLemmas.{leaf-short, boundary-short, head-short}
@@ -54,7 +54,7 @@ pub statement_at-returns-clause-ok : goal.statement_at-returns-clause-ok
 statement_at-returns-clause-ok t c =
     read-group c.args.depth (kind_in c.args.parent) c.args.bytes.now _ _ _ _ _ _ _ c.if-depth-eq0.false c.in_default.ensures c.in_default-boundary_at.ensures c.in-Some-head_at.ensures
     c.in_ok-members.ensures.ok c.in-Some-after.ensures
-    (c.group_of.ensures ∙ ap (λ n. spec.Group (kind_in c.in-Some-head_at.kind) n (trees_of c.in_ok-members.members)) c.in_ok-name_of-3.ensures)
+    (c.node.ensures.tree ∙ ap (λ n. spec.Group (kind_in c.in-Some-head_at.kind) n (trees_of c.in_ok-members.members)) c.in_ok-name_of-3.ensures)
 
 pub statements_at-loop-init : goal.statements_at-loop-init
 statements_at-loop-init t c = starts c.args.depth (kind_in c.args.parent) c.args.bytes.now _ c.new-members.ensures.trees

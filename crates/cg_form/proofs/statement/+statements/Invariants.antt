@@ -1,6 +1,6 @@
 use Rattle.std.proofs.Common.{◌≡◌, ◌-◌, ◌+◌, ◌*◌}
 use Rattle.cg_model.specs.Node.{trees_of}
-use Rattle.cg_form.specs.Kind.{kind_in}
+use Rattle.cg_model.specs.Group.{kind_in}
 use Rattle.cg_form.specs.Reading.{repeat_at, statement_at, statements_at}
 use Rattle.cg_form.proofs.statement.+statements.Given as goal
 

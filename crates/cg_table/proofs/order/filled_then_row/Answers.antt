@@ -8,13 +8,13 @@ use Rattle.cg_table.proofs.TableLemmas.{rows-near}
 use Rattle.cg_table.proofs.WithinLemmas.{entry-within, row_entry-within}
 use Rattle.cg_table.proofs.order.filled_then_row.Goals as goal
 
-pub returns-in_err-push_then_row-clause-ticks : goal.returns-in_err-push_then_row-clause-ticks
-returns-in_err-push_then_row-clause-ticks g c = omega (arith, c.loop-a.invariant.ticks, c.push_then_row.ensures.ticks, start_next c.args.p.now.cells c.loop-a.a, start_rises c.args.p.now.cells (c.loop-a.a + 1) c.args.p.now.cells (omega arith))
+pub returns-in_err-push_then_row-clause-at_most : goal.returns-in_err-push_then_row-clause-at_most
+returns-in_err-push_then_row-clause-at_most g c = omega (arith, c.loop-a.invariant.ticks, c.push_then_row.ensures.at_most, start_next c.args.p.now.cells c.loop-a.a, start_rises c.args.p.now.cells (c.loop-a.a + 1) c.args.p.now.cells (omega arith))
 
 pub loop-a-preserved : goal.loop-a-preserved
 loop-a-preserved g c = record {
   front = rows_done c.args.p.now.cells (then_row_entry (entry c.args.p.now) (row_entry c.args.w.now)) c.loop-a.entries.items c.push_then_row.new.entries.items c.loop-a.a c.in_ok-push_then_row.ensures.row c.loop-a.invariant.front;
-  ticks = omega (arith, c.loop-a.invariant.ticks, c.push_then_row.ensures.ticks, start_next c.args.p.now.cells c.loop-a.a);
+  ticks = omega (arith, c.loop-a.invariant.ticks, c.in_ok-push_then_row.ensures.ticks, start_next c.args.p.now.cells c.loop-a.a);
 }
 
 pub of_entries-requires-clause-count : goal.of_entries-requires-clause-count

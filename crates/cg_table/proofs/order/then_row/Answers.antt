@@ -3,7 +3,7 @@ use Rattle.std.proofs.lemmas.Result.{IfOk-weaker}
 use Rattle.cg_table.specs.Exact.{exact_then_row}
 use Rattle.cg_table.specs.Formulas.{then_row_entry, then_row_of}
 use Rattle.cg_table.specs.Losses.{greatest_loss, greatest_reach}
-use Rattle.cg_table.specs.Table.{EnclosesTable, entry, row_entry, table_loss, table_reach}
+use Rattle.cg_table.specs.Table.{EnclosesTable, entry, row_entry, start, table_loss, table_reach}
 use Rattle.cg_table.proofs.FormulaLemmas.{then_row-within, then_row-encloses}
 use Rattle.cg_table.proofs.PlaceLemmas.{start_twice}
 use Rattle.cg_table.proofs.TableLemmas.{table-loss, table-reach, table-encloses, most}
@@ -26,4 +26,10 @@ returns-clause-reach g c few = IfOk-weaker _ (λ r. r ≡ then_row_of c.args.p.n
     (λ a b le less. then_row-within (entry c.args.p.now) (row_entry c.args.w.now) (table_loss c.args.p.now) (table_reach c.args.p.now * 2 ^ 31) (greatest_loss c.args.w.now) (greatest_reach c.args.w.now * 2 ^ 31) c.args.p.now.cells a b (λ a b. entry-within c.args.p.now a b c.filled_then_row.ensures.operands.0) (λ b. row_entry-within c.args.w.now b c.filled_then_row.ensures.operands.1) le less) (omega arith) is) c.filled_then_row.ensures.value
 
 pub returns-clause-ticks : goal.returns-clause-ticks
-returns-clause-ticks g c = omega (arith, c.filled_then_row.ensures.ticks, start_twice c.args.p.now.cells c.args.p.now.cells 0 (omega arith))
+returns-clause-ticks g c =
+    let cells = c.args.p.now.cells in
+    IfOk-weaker _ (λ _. c.filled_then_row.new.steps ≡ c.args.steps.now + start cells cells) (λ _. 2 * c.filled_then_row.new.steps ≡ 2 * c.args.steps.now + cells * (cells + 1))
+    (λ _ all. omega (arith, all, start_twice cells cells 0 (omega arith))) c.filled_then_row.ensures.ticks
+
+pub returns-clause-at_most : goal.returns-clause-at_most
+returns-clause-at_most g c = omega (arith, c.filled_then_row.ensures.at_most, start_twice c.args.p.now.cells c.args.p.now.cells 0 (omega arith))

@@ -2,7 +2,7 @@ use Rattle.std.proofs.Common.{◌≡◌, ◌+◌, ◌*◌, ◌^◌, ◌≤◌, a
 use Rattle.std.proofs.lemmas.Result.{IfOk-weaker}
 use Rattle.cg_table.specs.Exact.{exact_beside}
 use Rattle.cg_table.specs.Formulas.{beside_entry, beside_of}
-use Rattle.cg_table.specs.Table.{EnclosesTable, entry, table_loss, table_reach}
+use Rattle.cg_table.specs.Table.{EnclosesTable, entry, start, table_loss, table_reach}
 use Rattle.cg_table.proofs.FormulaLemmas.{beside-within, beside-encloses}
 use Rattle.cg_table.proofs.PlaceLemmas.{start_twice}
 use Rattle.cg_table.proofs.TableLemmas.{table-loss, table-reach, table-encloses, most}
@@ -25,4 +25,10 @@ returns-clause-reach g c few = IfOk-weaker _ (λ r. r ≡ beside_of c.args.s.now
     (λ a b le less. beside-within (entry c.args.s.now) (entry c.args.t.now) (table_loss c.args.s.now) (table_reach c.args.s.now * 2 ^ 31) (table_loss c.args.t.now) (table_reach c.args.t.now * 2 ^ 31) c.args.s.now.cells a b (λ a b. entry-within c.args.s.now a b c.filled_beside.ensures.operands.0) (λ a b. entry-within c.args.t.now a b c.filled_beside.ensures.operands.1) le less) (omega arith) is) c.filled_beside.ensures.value
 
 pub returns-clause-ticks : goal.returns-clause-ticks
-returns-clause-ticks g c = omega (arith, c.filled_beside.ensures.ticks, start_twice c.args.s.now.cells c.args.s.now.cells 0 (omega arith))
+returns-clause-ticks g c =
+    let cells = c.args.s.now.cells in
+    IfOk-weaker _ (λ _. c.filled_beside.new.steps ≡ c.args.steps.now + 2 * start cells cells) (λ _. c.filled_beside.new.steps ≡ c.args.steps.now + cells * (cells + 1))
+    (λ _ all. omega (arith, all, start_twice cells cells 0 (omega arith))) c.filled_beside.ensures.ticks
+
+pub returns-clause-at_most : goal.returns-clause-at_most
+returns-clause-at_most g c = omega (arith, c.filled_beside.ensures.at_most, start_twice c.args.s.now.cells c.args.s.now.cells 0 (omega arith))

@@ -7,13 +7,13 @@ use Rattle.cg_table.proofs.TableLemmas.{rows-near}
 use Rattle.cg_table.proofs.WithinLemmas.{entry-within}
 use Rattle.cg_table.proofs.side.filled_beside.Goals as goal
 
-pub returns-in_err-push_beside-clause-ticks : goal.returns-in_err-push_beside-clause-ticks
-returns-in_err-push_beside-clause-ticks g c = omega (arith, c.loop-a.invariant.ticks, c.push_beside.ensures.ticks, start_next c.args.s.now.cells c.loop-a.a, start_rises c.args.s.now.cells (c.loop-a.a + 1) c.args.s.now.cells (omega arith))
+pub returns-in_err-push_beside-clause-at_most : goal.returns-in_err-push_beside-clause-at_most
+returns-in_err-push_beside-clause-at_most g c = omega (arith, c.loop-a.invariant.ticks, c.push_beside.ensures.at_most, start_next c.args.s.now.cells c.loop-a.a, start_rises c.args.s.now.cells (c.loop-a.a + 1) c.args.s.now.cells (omega arith))
 
 pub loop-a-preserved : goal.loop-a-preserved
 loop-a-preserved g c = record {
   front = rows_done c.args.s.now.cells (beside_entry (entry c.args.s.now) (entry c.args.t.now)) c.loop-a.entries.items c.push_beside.new.entries.items c.loop-a.a c.in_ok-push_beside.ensures.row c.loop-a.invariant.front;
-  ticks = omega (arith, c.loop-a.invariant.ticks, c.push_beside.ensures.ticks, start_next c.args.s.now.cells c.loop-a.a);
+  ticks = omega (arith, c.loop-a.invariant.ticks, c.in_ok-push_beside.ensures.ticks, start_next c.args.s.now.cells c.loop-a.a);
 }
 
 pub of_entries-requires-clause-count : goal.of_entries-requires-clause-count

@@ -2,7 +2,7 @@ use Rattle.std.proofs.Common.{◌≡◌, ◌+◌, ◌*◌, ◌^◌, ◌≤◌, a
 use Rattle.std.proofs.lemmas.Result.{IfOk-weaker}
 use Rattle.cg_table.specs.Exact.{exact_spanned}
 use Rattle.cg_table.specs.Formulas.{spanned_entry, spanned_of}
-use Rattle.cg_table.specs.Table.{EnclosesTable, entry, table_loss, table_reach}
+use Rattle.cg_table.specs.Table.{EnclosesTable, entry, start, table_loss, table_reach}
 use Rattle.cg_table.proofs.FormulaLemmas.{spanned-within, spanned-encloses}
 use Rattle.cg_table.proofs.PlaceLemmas.{start_twice}
 use Rattle.cg_table.proofs.TableLemmas.{table-loss, table-reach, table-encloses, most}
@@ -25,4 +25,10 @@ returns-clause-reach g c few opened = IfOk-weaker _ (λ r. r ≡ spanned_of c.ar
     (λ a b le less. spanned-within (entry c.args.m.now) (table_loss c.args.m.now) (table_reach c.args.m.now * 2 ^ 31) c.args.n c.args.m.now.cells a b (λ a b. entry-within c.args.m.now a b c.filled_spanned.ensures.operand) c.filled_spanned.ensures.operand.few le less) (omega arith) is) c.filled_spanned.ensures.value
 
 pub returns-clause-ticks : goal.returns-clause-ticks
-returns-clause-ticks g c = omega (arith, c.filled_spanned.ensures.ticks, start_twice c.args.m.now.cells c.args.m.now.cells 0 (omega arith))
+returns-clause-ticks g c =
+    let cells = c.args.m.now.cells in
+    IfOk-weaker _ (λ _. c.filled_spanned.new.steps ≡ c.args.steps.now + start cells cells + cells * c.args.n) (λ _. 2 * c.filled_spanned.new.steps ≡ 2 * c.args.steps.now + cells * (cells + 1) + 2 * (cells * c.args.n))
+    (λ _ all. omega (arith, all, start_twice cells cells 0 (omega arith))) c.filled_spanned.ensures.ticks
+
+pub returns-clause-at_most : goal.returns-clause-at_most
+returns-clause-at_most g c = omega (arith, c.filled_spanned.ensures.at_most, start_twice c.args.m.now.cells c.args.m.now.cells 0 (omega arith))

@@ -83,7 +83,7 @@ side_by_side-loop-node-preserved g t c =
     c.in_ok-others-2.ensures.value ∙ ap (λ table. beside_of others table) c.in_ok-table.ensures in
     let stands = beside_here c.args.pass.now c.loop-node.next node later (trees_from items place) others c.in_ok-table.table c.requires.ready here c.loop-node.invariant.events c.loop-node.invariant.room c.in_ok-table.ensures in
     let ticks = ap (λ ts. side_by_side_ticks cells ts) here in
-    let beside_ticks = c.beside.ensures.ticks in
+    let beside_ticks = c.beside.ensures.at_most in
     let own : c.events-next.result ≡ count node = omega (arith, c.events-next.ensures, ap count_all here, c.loop-node.invariant.events, c.requires.ready.events) in
     record {
       value = rw (own, with) (ap (λ ts. side_by_side pass c.loop-node.next others ts) (sym here) ∙ c.loop-node.invariant.value);

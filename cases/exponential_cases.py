@@ -1,10 +1,8 @@
 #!/usr/bin/env python3
-"""Prints the cases of the tests of cg_exp, worked out from the rules of its recipe in exact whole numbers.
+"""Prints bounds of e^-z, from the rules of their recipe, in exact whole numbers; a chain goes by its index's parity.
 
-It checks the expected values of those tests and is no part of the gate. It shares no code with the crate: y is a Fraction,
-each chain goes by the parity of its index, and powers of two are searched for. It also sees, by exact fractions, that the
-start encloses both Taylor sums, that the result has the stated loss, and, by decimals of 60 digits, that e^-z itself lies
-between the ends. Run it alone to print the table.
+By fractions it sees that the start encloses both Taylor sums and that the result has the stated loss, and by
+decimals of 60 digits that e^-z lies between the ends.
 """
 from decimal import Decimal, localcontext
 from fractions import Fraction

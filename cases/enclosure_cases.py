@@ -1,8 +1,7 @@
 #!/usr/bin/env python3
-"""Prints the cases of the tests of cg_enc, worked out from the rounding rules in exact whole numbers.
+"""Prints sums, products, quotients, roots and margins of enclosures, from the rounding rules, in exact whole numbers.
 
-It checks the expected values of those tests and is no part of the gate. It shares no code with the crate: powers of two
-are searched for, divisions are Python's, and roots are `math.isqrt`. Run it alone to print every table.
+Powers of two are searched for, divisions are Python's, and roots are `math.isqrt`.
 """
 from math import isqrt
 

@@ -1,11 +1,8 @@
 #!/usr/bin/env python3
-"""Prints the cases of the tests of cg_up, and of the edits that cg_run tests, by listing every dating of a small model.
+"""Prints the posteriors of small models, by listing every list of cells that keeps the order rule and the exact years.
 
-It checks the expected values of those tests and is no part of the gate. It shares no code with the crate and uses no
-tables: each list of cells is seen to keep the order rule and the exact years, and weighs the product over its events of
-one over the cells of their spans. A case is a model, the older and the younger year of its grid, and an event. The parts
-of the whole are printed over one number, and the pair of each cell, which is the floor and the ceiling of its part in parts
-per million. One that is a whole number is marked: there rounding may show.
+Each weighs one over the cells of its spans, multiplied over their events. Of a model, a grid and an event it prints the
+parts of the whole over one number, and their floors and ceilings in parts per million; whole numbers are marked.
 """
 from fractions import Fraction
 from itertools import accumulate, product

@@ -1,9 +1,7 @@
 #!/usr/bin/env python3
-"""Prints the cases of the tests of cg_marginal, worked out from the rules in exact whole numbers.
+"""Prints the pairs of rows in parts per million, from the rounding rules, in exact whole numbers.
 
-It checks the expected values of those tests and is no part of the gate. The whole is the first entry with each next one
-added to it, and a pair is what an entry is of the whole, rounded down and up. Of each case it also tests by fractions that
-the pairs hold for both ends of every entry.
+By fractions it sees that the pairs hold for both ends of every entry.
 """
 from fractions import Fraction
 

@@ -1,8 +1,7 @@
 #!/usr/bin/env python3
-"""Prints the cases of the tests of tables in cg_table, worked out from the formulas in exact whole numbers.
+"""Prints the entries of triangular tables, from the formulas, each summed by itself, in exact whole numbers.
 
-It checks the expected values of those tests and is no part of the gate. Each entry is summed by itself, with no running
-sum. Of each case it also tests by fractions that both ends of every entry stand on either side of the exact value.
+By fractions it sees that both ends of every entry stand on either side of the exact value.
 """
 from fractions import Fraction
 

@@ -1,8 +1,7 @@
 #!/usr/bin/env python3
-"""Prints the cases of the tests of cg_curve, worked out from the form of curve files in exact whole numbers.
+"""Prints the points of curve files and their first faults, from the form of the files, in exact whole numbers.
 
-It checks the expected values of those tests and is no part of the gate. It shares no code with the crate: lines and fields
-are split by regular expressions, and a year is looked up by going over all rows. Run it alone to print every table.
+Lines and fields are split by regular expressions, and a year is looked up by going over all rows.
 """
 import re
 

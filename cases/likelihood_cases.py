@@ -1,9 +1,7 @@
 #!/usr/bin/env python3
-"""Prints the cases of the tests of cg_like, worked out from the rules of its recipe in exact whole numbers.
+"""Prints rows of weights, from the rules of their recipe and the rows of a curve file, in exact whole numbers.
 
-It checks the expected values of those tests and is no part of the gate. It shares no code with the crate: a distance is
-worked out from the rows of the curve file, and enclosures as in enclosure_cases.py and exponential_cases.py. It also sees,
-by decimals of 60 digits, that the likelihood itself lies between the ends. Run it alone to print every table.
+By decimals of 60 digits it sees that the likelihood itself lies between the ends.
 """
 from decimal import Decimal, localcontext
 from fractions import Fraction
