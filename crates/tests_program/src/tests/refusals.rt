@@ -1,6 +1,6 @@
 use super::{TWO_EVENTS, WORDS, open_sink, run_words};
-use crate::status::Status;
-use crate::top::run_alone;
+use cg_run::Status;
+use cg_run::run_alone;
 use cg_curve::CurveFault;
 use cg_files::{FileCause, FileKind, FileRef};
 use cg_io::MemShelf;
@@ -190,7 +190,7 @@ fn long_files(rt: HostRuntime) -> Result<(), Fail> {
 }
 
 /// A model, a script, and the lines between the first and the last.
-static COMMANDS: [(&str, &str, &str); 9] = [
+static COMMANDS: [(&str, &str, &str); 11] = [
     // A command that needs a version, before all else.
     (
         TWO_EVENTS,
@@ -232,6 +232,18 @@ static COMMANDS: [(&str, &str, &str); 9] = [
         "take v0\ncommit main\nopen main\nadd \"s\" Date(\"C\");\ncommit main\ntake v0\ncommit main\n",
         "at v0\nrefused 2 moved v0\nat v0\nmade v1\ncommitted v1\nat v0\ncommitted v0\n",
     ),
+    // In the order of refusals; what is refused leaves all as it was.
+    (
+        TWO_EVENTS,
+        "print \"A\"\nopen main\nprint \"Z\"\ngrid 2512 2000\nopen other\ngrid 2000 2000\nprint \"Z\"\nprint \"s\"\n",
+        "refused 1 not open\nat v0\nrefused 3 no grid\nrefused 4 grid limit 513\nrefused 5 no model\ngrid 2000 2000\nrefused 7 no name\nrefused 8 wrong kind Sequence\n",
+    ),
+    // A head may go back to an older version.
+    (
+        TWO_EVENTS,
+        "open main\nadd \"s\" Date(\"C\");\ncommit main\nundo\ncommit main\nundo\ntake v7\nset \"A\" C_Date(-60);\n",
+        "at v0\nmade v1\ncommitted v1\nat v0\ncommitted v0\nrefused 6 no parent\nrefused 7 no version 2\nmade v2\n",
+    ),
     // No curve was given.
     (
         "R_Date(\"R\",2000,30);",
@@ -255,6 +267,55 @@ fn commands(rt: HostRuntime) -> Result<(), Fail> {
         let want = format!(in rt.alloc(); "session 1\n{lines}end 1\n")?;
         assert_eq!(rt; ended.status, Status::Done, "{script}");
         assert_eq!(rt; sink.bytes(), want.as_bytes(), "{script}");
+    }
+    Ok(())
+}
+
+/// Curves, a model, the older year of a grid, and the cause: the first event and its oldest year at fault, after the name.
+static UNWEIGHED: [(&str, &str, u32, &str); 5] = [
+    ("", "R_Date(\"R\",2000,1);", 2001, "no curve"),
+    ("c=c", "R_Date(\"R\",17000,1);", 2003, "uncovered 2003"),
+    ("c=c", "R_Date(\"R\",18385,1);", 2001, "far date 2001"),
+    (
+        "",
+        "Phase(){C_Date(\"R\",-18051,1);Sequence(){Boundary(\"b\");R_Date(\"Q\",2000,1);};};",
+        2001,
+        "far date 2001",
+    ),
+    (
+        "",
+        "Phase(){Sequence(){Boundary(\"b\");R_Date(\"Q\",2000,1);};C_Date(\"R\",-18051,1);};",
+        2001,
+        "no curve",
+    ),
+];
+
+#[test]
+fn unweighed_events(rt: HostRuntime) -> Result<(), Fail> {
+    for (curves, model, older, cause) in &UNWEIGHED {
+        let script = format!(in rt.alloc(); "open main\ngrid {older} 2000\nprint \"Z\"\nprint \"R\"\n")?;
+        let files = [
+            ("c", "2002,2000,20\n2000,2000,20\n"),
+            ("m", *model),
+            ("s", script.as_str()),
+        ];
+        let all = [
+            "alone",
+            "--models",
+            "main=m",
+            "--sessions",
+            "s",
+            "--curves",
+            *curves,
+        ];
+        let words = if curves.is_empty() { &all[..5] } else { &all[..] };
+        let mut sink = open_sink(&rt)?;
+        let ended = run_words(&rt, words, files.as_slice(), &mut sink)?;
+        let want = format!(in rt.alloc();
+            "session 1\nat v0\ngrid {older} 2000\nrefused 3 no name\nrefused 4 {cause}\nend 1\n"
+        )?;
+        assert_eq!(rt; ended.status, Status::Done, "{model}");
+        assert_eq!(rt; sink.bytes(), want.as_bytes(), "{model}");
     }
     Ok(())
 }

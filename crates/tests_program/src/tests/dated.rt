@@ -1,5 +1,5 @@
 use super::{WORDS, open_sink, run_words};
-use crate::status::Status;
+use cg_run::Status;
 use std::test::Fail;
 
 /// Words with a first curve and a second one, which serves no date.

@@ -5,8 +5,8 @@ mod refusals;
 mod sharing;
 mod status;
 
-use crate::status::Ended;
-use crate::top::run_alone;
+use cg_run::Ended;
+use cg_run::run_alone;
 use cg_io::{MemShelf, MemSink};
 use std::test::Fail;
 

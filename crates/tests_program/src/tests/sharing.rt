@@ -1,5 +1,5 @@
 use super::{TWO_EVENTS, open_sink, run_words};
-use crate::status::{Ended, Status};
+use cg_run::{Ended, Status};
 use std::alloc::Global;
 use std::test::Fail;
 

@@ -2,31 +2,29 @@
 //! million that are proved to hold.
 #![tactic(auto)]
 
-mod output;
-mod status;
+mod edge;
 #[cfg(test)]
 mod tests;
-mod top;
 
-use crate::status::{Status, status_line};
-use crate::top::run_alone;
+use crate::edge::{behind_the_name, exit_of, report};
 use cg_io::{FileShelf, StreamSink};
+use cg_run::{Status, run_alone};
 use std::env;
-use std::io::{self, ErrorKind, Write};
+use std::io::{self, ErrorKind};
 use std::process::ExitCode;
 
 fn main(rt: HostRuntime) -> ExitCode {
     let status = run(&rt);
-    if status != Status::Done {
-        report(&rt, &status);
-    }
-    ExitCode::from(status.code())
+    let mut errors = StreamSink::new(rt.stderr());
+    // A failed write there has nobody to be told.
+    report(rt.alloc(), &mut errors, &status);
+    exit_of(&status)
 }
 
 /// Runs the words of the command line over real files and standard output.
 fn run(rt: &HostRuntime) -> Status {
-    let words = match words_of(rt) {
-        Ok(words) => words,
+    let words = match arguments(rt) {
+        Ok(words) => behind_the_name(words),
         Err(status) => return status,
     };
     let mut shelf = FileShelf::new(rt);
@@ -34,27 +32,18 @@ fn run(rt: &HostRuntime) -> Status {
     run_alone(rt.alloc(), &words, &mut shelf, &mut sink).status
 }
 
-/// The words behind the program's name. Words that are no text are in no known form.
-fn words_of(rt: &HostRuntime) -> Result<Vec<String>, Status> {
-    let args = match env::args(rt) {
-        Ok(args) => args,
+/// All words, with the program's name. Words that are no text are in no known form.
+fn arguments(rt: &HostRuntime) -> Result<Vec<String>, Status> {
+    let given = match env::args(rt) {
+        Ok(given) => given,
         Err(error) if error.kind() == ErrorKind::OutOfMemory => return Err(Status::NoMemory),
         Err(_) => return Err(Status::Usage),
     };
     let mut words = Vec::new(rt.alloc());
-    for word in args.skip(1) {
+    for word in given {
         if words.push(word).is_err() {
             return Err(Status::NoMemory);
         }
     }
     Ok(words)
-}
-
-/// Writes the status line to standard error. A failed write there has nobody to be told.
-fn report(rt: &HostRuntime, status: &Status) {
-    let mut out = rt.stderr();
-    let _told = match status_line(rt.alloc(), status) {
-        Ok(line) => out.write_all(&line),
-        Err(_) => out.write_all(b"out of memory\n"),
-    };
 }

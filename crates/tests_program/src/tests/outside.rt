@@ -1,6 +1,6 @@
 use super::{TWO_EVENTS, WORDS, open_sink, run_words, shelf_of, words_of};
-use crate::status::Status;
-use crate::top::run_alone;
+use cg_run::Status;
+use cg_run::run_alone;
 use cg_files::{FileKind, FileRef};
 use cg_io::{MemShelf, MemSink, Shelf};
 use std::test::Fail;

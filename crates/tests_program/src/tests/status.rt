@@ -1,4 +1,4 @@
-use crate::status::{Status, status_line};
+use cg_run::{Status, status_line};
 use cg_curve::CurveFault;
 use cg_files::{FileCause, FileKind, FileRef};
 use std::test::Fail;

@@ -1,5 +1,5 @@
 use super::{TWO_EVENTS, WORDS, open_sink, run_words};
-use crate::status::Status;
+use cg_run::Status;
 use std::test::Fail;
 
 const MOVES: &str =
