@@ -168,11 +168,11 @@ asked chronology scene event some few model known h = record {
 -- The recipe is right where its rows enclose their weights.
 pub right-on : (chronology : Chronology) (scene : Scene) (event : ℕ) → 1 ≤ scene.grid.cells → scene.grid.cells ≤ 512 → IsModel chronology.top → IsKnown (root_of chronology) scene →
     event < count (root_of chronology) →
-    IsRight (root_of chronology) scene event (recipe (root_of chronology) scene event)
+    IsRight (root_of chronology) scene event
 unfolding recipe
 right-on chronology scene event some few model known h =
     let made = made-right (root_of chronology) scene event (record { bounded = bounded; known = known; asked = asked chronology scene event some few model known h }) in
-    record { holds = made.holds; recipe = refl; narrow = made.narrow }
+    record { holds = made.holds; narrow = made.narrow }
 
 -- They do on every grid and curve on which all datings can be weighed.
 pub right-by : WeightsEnclose → RecipesAreRight
