@@ -1,0 +1,51 @@
+ghost use Rattle.std.specs.Prelude.{◌≤◌, length, All, IfOk};
+ghost use Rattle.cg_sharing.specs.Course.{AreFit};
+ghost use Rattle.cg_session.specs.Standing.{first_curve};
+ghost use Rattle.cg_interleaving.specs.Run.{IsRunOf};
+
+use crate::sessions::Sessions;
+use cg_book::Journal;
+use cg_curve::Curves;
+use cg_num::NoMemory;
+use cg_script::Script;
+use cg_table::Steps;
+use cg_versions::StartModels;
+use std::alloc::Global;
+use std::sync::ledger::Ledger;
+
+/// What sessions over one book came to.
+#[derive(Drop)]
+pub struct Run {
+    /// All events of the book.
+    pub journal: Journal,
+    /// What the sessions wrote, in their order.
+    pub transcripts: Vec<Vec<u8>>,
+    /// Whether want of memory stopped a session.
+    pub stopped: bool,
+}
+
+/// Runs a session of each script over one book of these models, at most eight. The sessions are numbered from 1 in the
+/// order of the scripts. Each turn names a session, which makes its next event, if it has one; a number that is no
+/// session's does nothing. When the turns are used up, the sessions run to their ends in their order. The first of the
+/// curves serves all radiocarbon dates. Each product of two enclosures in a print's tables is a step.
+///
+/// `NoMemory` comes only before a session has begun. Want of memory later stops one session, and the others go on.
+pub fn run_in_turns<L: Ledger>(
+    alloc: Global,
+    models: StartModels,
+    scripts: Vec<Script>,
+    turns: &[u32],
+    curves: &Curves,
+    steps: &mut Steps<L>,
+) -> Result<Run, NoMemory>
+    requires ready { All AreFit scripts.items }
+    requires few { length scripts.items ≤ 8 }
+    ensures { IfOk result (λ run. IsRunOf (first_curve curves.now) models scripts.items turns.now run) }
+{
+    let mut transcripts = Vec::new(alloc);
+    transcripts.reserve(scripts.len())?;
+    let mut all = Sessions::new(alloc, models, scripts)?;
+    all.take_turns(alloc, turns, curves, steps);
+    all.finish_all(alloc, curves, steps);
+    Ok(all.close(transcripts))
+}
