@@ -58,7 +58,7 @@ lines_of (Some place) = length place.left
 abbrev pub lines_at : ℕ → World → ℕ
 lines_at place world = lines_of (slice_get world.places place)
 
--- The session at a place has taken its turn, and has fewer lines left if it made an event.
+-- The session at a place has taken its turn, and has fewer lines left if it made an act.
 pub record HasTurned (curve : Curve) (place : ℕ) (moved : Bool) (world : World) (all : Sessions) : Type 0 where
   pub now : World
   pub taken : AreTurns curve (suc place ∷ []) world now
@@ -99,7 +99,7 @@ left_in (Some session) = left_of session
 abbrev pub left_at : ℕ → Sessions → ℕ
 left_at place all = left_in (slice_get all.list.items place)
 
--- One session advanced: that is a turn of it. It tells whether it made an event; its course is over if not.
+-- One session advanced: that is a turn of it. It tells whether it made an act; its course is over if not.
 pub record Advances (curve : Curve) (place : ℕ) (moved : Bool) (old new : Sessions) : Type 0 where
   pub can : CanGoOn curve new
   pub same : map script_of new.list.items ≡ map script_of old.list.items

@@ -16,7 +16,7 @@ use std::sync::ledger::Ledger;
 /// What sessions over one book came to.
 #[derive(Drop)]
 pub struct Run {
-    /// All events of the book.
+    /// All acts and answers of the book.
     pub journal: Journal,
     /// What the sessions wrote, in their order.
     pub transcripts: Vec<Vec<u8>>,
@@ -25,7 +25,7 @@ pub struct Run {
 }
 
 /// Runs a session of each script over one book of these models, at most eight. The sessions are numbered from 1 in the
-/// order of the scripts. Each turn names a session, which makes its next event, if it has one; a number that is no
+/// order of the scripts. Each turn names a session, which makes its next act, if it has one; a number that is no
 /// session's does nothing. When the turns are used up, the sessions run to their ends in their order. The first of the
 /// curves serves all radiocarbon dates. Each product of two enclosures in a print's tables is a step.
 ///

@@ -69,7 +69,7 @@ impl Sessions {
         })
     }
 
-    // Lets the session at a place advance once, and tells whether it made an event.
+    // Lets the session at a place advance once, and tells whether it made an act.
     fn advance<L: Ledger>(
         &mut self,
         alloc: Global,

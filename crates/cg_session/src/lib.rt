@@ -11,8 +11,6 @@ mod port;
 mod search;
 mod session;
 mod standing;
-#[cfg(test)]
-mod tests;
 mod transcript;
 
 pub use port::{BookPort, Port};

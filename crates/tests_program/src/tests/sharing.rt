@@ -12,7 +12,7 @@ const PAIR: &str = "s,t";
 const EIGHT: &str = "e,e,s,e,e,e,e,t";
 
 /// Sessions and turns, the output, and the seats of the journal in their order.
-static RUNS: [(&str, &str, &str, &[u32]); 4] = [
+static RUNS: [(&str, &str, &str, &[u32]); 7] = [
     // The one that commits second is told of the other's version.
     (
         PAIR,
@@ -33,6 +33,26 @@ static RUNS: [(&str, &str, &str, &[u32]); 4] = [
         "1",
         "session 1\nat v0\nmade v1\ncommitted v1\nend 1\nsession 2\nat v1\nmade v2\ncommitted v2\nat v1\nat v0\nrefused 6 no version 3\nend 2\n",
         &[1, 1, 1, 2, 2, 2, 2, 2, 2],
+    ),
+    // So it does without turns, and where it has more turns than acts.
+    (
+        PAIR,
+        "",
+        "session 1\nat v0\nmade v1\ncommitted v1\nend 1\nsession 2\nat v1\nmade v2\ncommitted v2\nat v1\nat v0\nrefused 6 no version 3\nend 2\n",
+        &[1, 1, 1, 2, 2, 2, 2, 2, 2],
+    ),
+    (
+        PAIR,
+        "1,1,1,1,1,2",
+        "session 1\nat v0\nmade v1\ncommitted v1\nend 1\nsession 2\nat v1\nmade v2\ncommitted v2\nat v1\nat v0\nrefused 6 no version 3\nend 2\n",
+        &[1, 1, 1, 2, 2, 2, 2, 2, 2],
+    ),
+    // The second has three turns, and goes on when the first has run to its end.
+    (
+        PAIR,
+        "2,2,2,1",
+        "session 1\nat v1\nmade v2\ncommitted v2\nend 1\nsession 2\nat v0\nmade v1\ncommitted v1\nat v0\nrefused 5 no parent\nrefused 6 no version 3\nend 2\n",
+        &[2, 2, 2, 1, 1, 1, 2, 2, 2],
     ),
     // Turns of sessions without work are passed over.
     (
@@ -56,7 +76,7 @@ fn seats_of(alloc: Global, ended: &Ended) -> Result<Vec<u32>, Fail> {
 fn turns(rt: HostRuntime) -> Result<(), Fail> {
     let files = [("m", TWO_EVENTS), ("e", ""), ("s", FIRST), ("t", SECOND)];
     for (sessions, turns, want, seats) in &RUNS {
-        let words = [
+        let all = [
             "alone",
             "--models",
             "main=m",
@@ -65,8 +85,9 @@ fn turns(rt: HostRuntime) -> Result<(), Fail> {
             "--turns",
             *turns,
         ];
+        let words = if turns.is_empty() { &all[..5] } else { &all[..] };
         let mut sink = open_sink(&rt)?;
-        let ended = run_words(&rt, words.as_slice(), files.as_slice(), &mut sink)?;
+        let ended = run_words(&rt, words, files.as_slice(), &mut sink)?;
         assert_eq!(rt; ended.status, Status::Done, "{turns}");
         assert_eq!(rt; sink.bytes(), want.as_bytes(), "{turns}");
         assert_eq!(rt; seats_of(rt.alloc(), &ended)?.as_slice(), *seats, "{turns}");
