@@ -3,7 +3,8 @@ use Rattle.std.proofs.Common.{◌≡◌, ℕ, suc, ◌≤◌, inl, inr, ◌==◌
 use Rattle.cg_meaning.specs.Tree.{Dating, Free, Exact, Normal, Carbon, Kind, Sequence, Phase, After, Before, Name, Tree, Leaf, Boundary, Group, Trees}
 use Rattle.cg_model.specs.Limits.{depth_of, IsInPlace}
 use Rattle.cg_text.specs.Text.{IsTitle, IsText, quoted}
-use Rattle.cg_form.specs.Model.{IsStated, word_of, values_text, comma_of, title, word_of_kind, IsWritten, statement_text}
+use Rattle.cg_form.specs.Model.{IsStated, word_of, values_text, comma_of, title, IsWritten, statement_text}
+use Rattle.cg_model.specs.Group.{word_of_kind}
 use Rattle.cg_text.specs.Pieces.{after, text_at}
 use Rattle.cg_form.specs.Values.{free_at, dated_at, carbon_at}
 use Rattle.cg_form.specs.Reading.{named_at, date_at, c_date_at, r_date_at, leaf_at, boundary_at, kind_at, title_at, head_at}

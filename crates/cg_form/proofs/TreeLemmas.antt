@@ -3,7 +3,8 @@ use Rattle.std.proofs.Common.{◌≡◌, ℕ, zero, suc, ◌+◌, ◌≤◌, inl
 use Rattle.cg_meaning.specs.Tree.{Dating, Free, Exact, Normal, Carbon, Kind, Sequence, Phase, After, Before, Name, Tree, Leaf, Boundary, Group, Trees, none, more, count, count_all}
 use Rattle.cg_model.specs.Node.{trees_with}
 use Rattle.cg_model.specs.Limits.{groups_of, groups_in, depth_of, depth_in, IsInPlace, AreInPlace}
-use Rattle.cg_form.specs.Model.{title, word_of_kind, IsWritten, AreWritten, statement_text, statements_text}
+use Rattle.cg_form.specs.Model.{title, IsWritten, AreWritten, statement_text, statements_text}
+use Rattle.cg_model.specs.Group.{word_of_kind}
 use Rattle.cg_text.specs.Text.{IsTitle}
 use Rattle.cg_text.specs.Pieces.{◌>>=◌, after}
 use Rattle.cg_form.specs.Reading.{leaf_at, boundary_at, head_at, is_past, repeat_at, group_at, statement_at, statements_at}

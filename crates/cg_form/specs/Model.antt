@@ -4,7 +4,7 @@ use Rattle.std.specs.Fmt.{signed_decimal}
 use Rattle.cg_num.specs.Year.{IsYear}
 use Rattle.cg_num.specs.Written.{decimal_text}
 use Rattle.cg_meaning.specs.Tree.{Dating, Free, Exact, Normal, Carbon, Sequence, Name, Tree, Leaf, Boundary, Group, Trees, none, more, Chronology}
-pub use Rattle.cg_model.specs.Group.{word_of_kind}
+use Rattle.cg_model.specs.Group.{word_of_kind}
 use Rattle.cg_model.specs.Limits as limits
 use Rattle.cg_text.specs.Text.{IsText, IsTitle, quoted, IsEnd}
 
