@@ -1,5 +1,5 @@
 -- Sessions that advance until their courses are over.
-use Rattle.std.proofs.Common.{◌≡◌, ◌≢◌, ℕ, zero, suc, ◌+◌, ◌-◌, ◌<◌, ◌≤◌, Bool, true, false, nat_eq, eqb-true, List, [], ◌∷◌, ◌++◌, length, drop, replicate, refl, sym, ap, subst, ◌∙◌, arith, take, Some, None, inl, inr}
+use Rattle.std.proofs.Common.{◌≡◌, ◌≢◌, ℕ, zero, suc, ◌+◌, ◌-◌, ◌<◌, ◌≤◌, Bool, true, false, nat_eq, eqb-true, List, [], ◌∷◌, ◌++◌, length, drop, replicate, refl, sym, ap, subst, ◌∙◌, arith, Some, None, inl, inr}
 use Rattle.std.specs.Prelude.{slice_get}
 use Rattle.std.proofs.lemmas.Bool.{true≢false, eqb-false}
 use Rattle.std.proofs.lemmas.List.{replicate-append-replicate}
@@ -14,7 +14,7 @@ use Rattle.cg_session.specs.declared.session.Session.{Session}
 use Rattle.cg_session.specs.Session.{script_of, IsIn}
 use Rattle.cg_interleaving.specs.Run.{IsOver}
 use Rattle.cg_interleaving.specs.declared.sessions.Sessions.{Sessions}
-use Rattle.cg_interleaving.specs.Taking.{CanGoOn, HasPlace, HavePlaces, AreIn, HaveTaken, lines_of, lines_at, HasTurned, HasTurnedOften, HaveRunOut, HasEnd, HasEndAt, Advances}
+use Rattle.cg_interleaving.specs.Taking.{HasPlace, HavePlaces, AreIn, HaveTaken, lines_of, lines_at, HasTurned, HasTurnedOften, HaveRunOut, HasEnd, HasEndAt}
 use Rattle.cg_interleaving.proofs.KeptLemmas.{stopped_left}
 use Rattle.cg_interleaving.proofs.WorldLemmas.{same_place}
 use Rattle.cg_interleaving.proofs.StepLemmas.{place_get}

@@ -11,8 +11,7 @@ use Rattle.cg_sharing.proofs.CourseLemmas.{running-others, running_knows}
 use Rattle.cg_sharing.proofs.ReachLemmas.{SameText, reach_others}
 use Rattle.cg_book.specs.Plain.{Seen, state_of}
 use Rattle.cg_session.specs.declared.session.Session.{Session}
-use Rattle.cg_session.specs.Standing.{number_of}
-use Rattle.cg_session.specs.Session.{script_of, is_stopped, IsIn, IsAt}
+use Rattle.cg_session.specs.Session.{script_of, IsAt}
 use Rattle.cg_session.proofs.SessionLemmas.{going, reaches_at}
 use Rattle.cg_session.proofs.AdvanceLemmas.{fits, known_version, text_later, same_text, stands_stopped}
 use Rattle.cg_interleaving.specs.Taking.{HasPlace, HasEnd}

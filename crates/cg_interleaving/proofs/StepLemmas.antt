@@ -1,5 +1,5 @@
 -- What an advance of one session makes of all.
-use Rattle.std.proofs.Common.{◌≡◌, ◌≢◌, ℕ, suc, ◌+◌, ◌<◌, ◌≤◌, Bool, true, false, ◌||◌, List, [], ◌∷◌, ◌++◌, map, length, drop, refl, sym, ap, ap₂, subst, ◌∙◌, arith, append-nil, get_or, Some, inl, inr}
+use Rattle.std.proofs.Common.{◌≡◌, ◌≢◌, ℕ, suc, ◌+◌, ◌<◌, Bool, true, false, ◌||◌, List, [], ◌∷◌, ◌++◌, map, length, drop, refl, sym, ap, ap₂, subst, ◌∙◌, arith, append-nil, get_or, Some, inl, inr}
 use Rattle.std.specs.Prelude.{slice_get, slice_set, zero}
 use Rattle.std.specs.List.{list_any}
 use Rattle.std.proofs.lemmas.List.Folds.{list_any-append}
@@ -11,7 +11,7 @@ use Rattle.cg_sharing.specs.Command.{Line}
 use Rattle.cg_sharing.specs.Versions.{State}
 use Rattle.cg_sharing.specs.Journal.{Entry, state_after, IsLegal}
 use Rattle.cg_sharing.specs.Course.{Place, settled, AreOthers, IsRunning}
-use Rattle.cg_sharing.specs.Interleaving.{World, turn, AreTurns}
+use Rattle.cg_sharing.specs.Interleaving.{World, turn}
 use Rattle.cg_sharing.proofs.JournalLemmas.{IsClosed}
 use Rattle.cg_sharing.proofs.CourseLemmas.{running_knows}
 use Rattle.cg_sharing.proofs.TurnLemmas.{get-set_same, get-set_other, turn_rests}
@@ -19,10 +19,10 @@ use Rattle.cg_book.specs.Plain.{Seen, state_of}
 use Rattle.cg_session.specs.declared.session.Session.{Session}
 use Rattle.cg_session.specs.declared.session.Progress.{Progress}
 use Rattle.cg_session.specs.declared.session.Progress.TheVariants.{Moved, Ended, Stopped}
-use Rattle.cg_session.specs.Session.{seat_of, script_of, left_of, is_stopped, IsIn, IsAt, Came}
+use Rattle.cg_session.specs.Session.{seat_of, script_of, left_of, is_stopped, IsAt, Came}
 use Rattle.cg_session.proofs.AdvanceLemmas.{closed_start}
 use Rattle.cg_interleaving.specs.declared.sessions.Sessions.{Sessions}
-use Rattle.cg_interleaving.specs.Taking.{AreAt, CanGoOn, HasPlace, HavePlaces, AreIn, lines_of, lines_at, HasTurned, HasEnd, HasEndAt, left_in, left_at, Advances}
+use Rattle.cg_interleaving.specs.Taking.{AreAt, CanGoOn, HasPlace, HavePlaces, AreIn, lines_of, HasTurned, HasEnd, HasEndAt, left_in, left_at, Advances}
 use Rattle.cg_interleaving.proofs.KeptLemmas.{stopped_is, stopped_left, place_later, end_later, kept_at, runs_on}
 use Rattle.cg_interleaving.proofs.WorldLemmas.{world_at, same_world, same_place, IsNext, turn_makes, turn_shortens}
 use Rattle.cg_interleaving.proofs.ListLemmas.{set-same, map-set_at, list_any-set}
@@ -328,15 +328,19 @@ turned_stopped curve i before after s t can step world here is =
     let P : ℕ → Type 0 = λ n. HasPlace curve n after.book.start after.book.journal t p in
     record {
       now = now;
-      taken = (now, inr (record {
-        before = got.place;
-        after = p;
-        here = got.here;
-        going = known.0.going;
-        none = stopped_left curve t.number after.book.start t.script after.book.journal p step.came.stopped;
-        stopped = stopped_is curve t.number after.book.start t.script after.book.journal p step.came.stopped;
-        same = same_world (record world { places = slice_set world.places i p }) start xs (xs ++ []) (slice_set world.places i p) here.state here.journal (append-nil xs) refl;
-      }), refl);
+      taken = (
+        now,
+        inr (record {
+          before = got.place;
+          after = p;
+          here = got.here;
+          going = known.0.going;
+          none = stopped_left curve t.number after.book.start t.script after.book.journal p step.came.stopped;
+          stopped = stopped_is curve t.number after.book.start t.script after.book.journal p step.came.stopped;
+          same = same_world (record world { places = slice_set world.places i p }) start xs (xs ++ []) (slice_set world.places i p) here.state here.journal (append-nil xs) refl;
+        }),
+        refl,
+      );
       here = new_world curve i Stopped before after s t can step world p here (subst P (step.number ∙ own.0) (inr (stays, step.came.here, step.came.stopped)));
       fewer = λ some. absurd (false≢true some);
     }

@@ -1,5 +1,5 @@
 -- What a turn makes of a world, told by the journal alone: it fixes where each session is that runs.
-use Rattle.std.proofs.Common.{◌≡◌, ℕ, suc, ◌<◌, List, [], ◌∷◌, ◌++◌, length, refl, sym, ap, ap₂, subst, ◌∙◌, arith, Some}
+use Rattle.std.proofs.Common.{◌≡◌, ℕ, suc, ◌<◌, List, [], ◌∷◌, ◌++◌, length, sym, ap, ap₂, subst, ◌∙◌, Some}
 use Rattle.std.specs.Prelude.{slice_get, slice_set}
 use Rattle.cg_meaning.specs.Curve.{Curve}
 use Rattle.cg_sharing.specs.Command.{Line}

@@ -3,7 +3,6 @@ use Rattle.std.specs.Prelude.{◌≡◌, ◌≢◌, ◌⊎◌, ℕ, zero, suc, �
 use Rattle.std.specs.List.{list_any}
 use Rattle.cg_meaning.specs.Curve.{Curve}
 use Rattle.cg_recipe.specs.Recipe.{recipe}
-use Rattle.cg_sharing.specs.Command.{Line}
 use Rattle.cg_sharing.specs.Versions.{State}
 use Rattle.cg_sharing.specs.Journal.{Entry, state_after}
 use Rattle.cg_sharing.specs.Course.{Place, IsRunning, IsEnded, IsStopped, transcript_of}

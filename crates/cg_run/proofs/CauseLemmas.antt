@@ -4,12 +4,12 @@ use Rattle.cg_io.specs.Shelf.{Files}
 use Rattle.cg_words.specs.Words.{Request, AreWords, AreNoWords}
 use Rattle.cg_words.proofs.AskLemmas.{one-thing}
 use Rattle.cg_files.specs.Reading as files
-use Rattle.cg_files.specs.Reading.{File, EndsWith}
+use Rattle.cg_files.specs.Reading.{EndsWith}
 use Rattle.cg_files.specs.Inputs.{Inputs, files_of, said_by}
 use Rattle.cg_files.specs.declared.file.FileFault.{FileFault}
 use Rattle.cg_files.specs.declared.file.FileFault.TheVariants as fault
 use Rattle.cg_files.proofs.OneEndLemmas.{have_one_end}
-use Rattle.cg_run.specs.Run.{AreAccepted, EndsAt, FilesCause, Causes}
+use Rattle.cg_run.specs.Run.{AreAccepted, EndsAt, FilesCause, CausesStatus}
 use Rattle.cg_run.specs.Status.{status_of}
 use Rattle.cg_run.specs.declared.status.Status.{Status}
 use Rattle.cg_run.specs.declared.status.Status.TheVariants.{Done, Usage, ReadFault, Refused, WriteFault, NoMemory}
@@ -23,7 +23,7 @@ record ByFiles (words : List (List ℕ)) (told : Option Files) (status : Status)
 abbrev Origin : List (List ℕ) → Option Files → Status → Type 0
 Origin words told status = (AreNoWords words × (status ≡ Usage)) ⊎ ByFiles words told status
 
-origin : (words : List (List ℕ)) (told : Option Files) (status : Status) → Causes words told status → Origin words told status
+origin : (words : List (List ℕ)) (told : Option Files) (status : Status) → CausesStatus words told status → Origin words told status
 origin words told Done cause = absurd cause
 origin words told Usage cause = inl (cause, refl)
 origin words told (ReadFault file) cause = inr (record { why = fault.Failed file; cause = cause; is = refl })
@@ -52,10 +52,10 @@ module _ (words : List (List ℕ)) (told : Files) where
 
 -- the status of a run of which no session began
 abbrev pub IsUnbegun : List (List ℕ) → Option Files → Status → Type 0
-IsUnbegun words told status = (status ≡ NoMemory) ⊎ Causes words told status
+IsUnbegun words told status = (status ≡ NoMemory) ⊎ CausesStatus words told status
 
 pub unasked : (words : List (List ℕ)) (told : Option Files) (status : Status) → status ≡ Usage → AreNoWords words → IsUnbegun words told status
-unasked words told status is none = inr (subst (λ s. Causes words told s) (sym is) none)
+unasked words told status is none = inr (subst (λ s. CausesStatus words told s) (sym is) none)
 
 -- a run that ends at a file has that cause
 pub ended_at : (words : List (List ℕ)) (told now : Option Files) (request : Request) (why : FileFault) (status : Status) → status ≡ status_of why → AreWords words request →
@@ -87,13 +87,13 @@ named_fault words told now request why wanted is asks end =
 
 module _ (words : List (List ℕ)) (told : Option Files) (status : Status) where
   -- each cause has its status
-  pub exact : IsUnbegun words told status → (files : Files) (cause : Status) → told ≡ Some files → Causes words (Some files) cause → (status ≡ cause) ⊎ (status ≡ NoMemory)
+  pub exact : IsUnbegun words told status → (files : Files) (cause : Status) → told ≡ Some files → CausesStatus words (Some files) cause → (status ≡ cause) ⊎ (status ≡ NoMemory)
   exact (inl none) files cause tells h = inr none
   exact (inr mine) files cause tells h =
-      inl (one_origin words files status cause (origin words (Some files) status (subst (λ t. Causes words t status) tells mine)) (origin words (Some files) cause h))
+      inl (one_origin words files status cause (origin words (Some files) status (subst (λ t. CausesStatus words t status) tells mine)) (origin words (Some files) cause h))
 
   -- accepted files have no cause
-  pub exact_ran : (request : Request) (inputs : Inputs) → AreAccepted words told request inputs → (files : Files) (cause : Status) → told ≡ Some files → Causes words (Some files) cause →
+  pub exact_ran : (request : Request) (inputs : Inputs) → AreAccepted words told request inputs → (files : Files) (cause : Status) → told ≡ Some files → CausesStatus words (Some files) cause →
       (status ≡ cause) ⊎ (status ≡ NoMemory)
   exact_ran request inputs accepts files cause tells h =
       absurd (no_origin words files cause request inputs (origin words (Some files) cause h) (subst (λ t. AreAccepted words t request inputs) tells accepts))
@@ -103,4 +103,4 @@ module _ (words : List (List ℕ)) (told : Option Files) (status : Status) where
       (status ≡ Done) ⊎ (status ≡ NoMemory)
   complete (inl none) files request inputs tells accepts = inr none
   complete (inr mine) files request inputs tells accepts =
-      absurd (no_origin words files status request inputs (origin words (Some files) status (subst (λ t. Causes words t status) tells mine)) accepts)
+      absurd (no_origin words files status request inputs (origin words (Some files) status (subst (λ t. CausesStatus words t status) tells mine)) accepts)

@@ -1,19 +1,19 @@
 -- What accepted files say of curves, models and scripts; and that what their sessions print is right.
-use Rattle.std.proofs.Common.{ℕ, suc, ◌+◌, List, [], ◌∷◌, ◌++◌, take, All, Option, refl, inl, inr, subst, arith, append_assoc, option_map}
-use Rattle.std.proofs.lemmas.List.Elements.{All-nil, All-cons, All-take}
+use Rattle.std.proofs.Common.{ℕ, ◌+◌, List, [], ◌∷◌, ◌++◌, All, Option, refl, inl, inr, sym, subst, append_assoc, option_map}
+use Rattle.std.proofs.lemmas.List.Elements.{All-nil, All-cons, All-head, All-tail, All-weaker}
 use Rattle.cg_io.specs.Shelf.{Files, after_read}
-use Rattle.cg_meaning.specs.Scene.{scene_of}
+use Rattle.cg_meaning.specs.Scene.{Scene}
 use Rattle.cg_curve.specs.Curves.{NamedCurve}
 use Rattle.cg_curve.specs.Rows.{IsCurve}
-use Rattle.cg_like.specs.Likelihood.{IsCurveOrNone}
+use Rattle.cg_like.specs.Likelihood.{IsCurveOrNone, IsScene}
 use Rattle.cg_recipe.specs.Laws.{RecipesAreRight}
-use Rattle.cg_up.specs.Curve.{rows_at}
 use Rattle.cg_sharing.specs.Command.{Line}
-use Rattle.cg_session.specs.Standing.{curve_number, marginals_on}
-use Rattle.cg_sharing.specs.Versions.{State, StartModel, start_of}
-use Rattle.cg_sharing.specs.Journal.{Entry, after, IsLegal}
-use Rattle.cg_sharing.specs.Course.{IsFit, AreFit}
-use Rattle.cg_prints.specs.Prints.{Print, prints_in}
+use Rattle.cg_session.specs.Standing.{first_curve}
+use Rattle.cg_sharing.specs.Versions.{StartModel, start_of}
+use Rattle.cg_sharing.specs.Journal.{Entry, IsLegal}
+use Rattle.cg_sharing.specs.Pieces.{Print, prints_of}
+use Rattle.cg_sharing.specs.Course.{Place, IsCourse, AreFit}
+use Rattle.cg_interleaving.specs.Run.{IsOver, AreOver}
 use Rattle.cg_prints.specs.Laws.{IsFounded, IsSound, PrintsAreFounded}
 use Rattle.cg_script.proofs.ScriptLemmas.{fit_script}
 use Rattle.cg_words.specs.Words.{Request}
@@ -22,7 +22,7 @@ use Rattle.cg_files.specs.Reading.{File, AcceptsAll}
 use Rattle.cg_files.specs.Inputs.{Inputs, files_of, said_of_curves, said_of_models, said_of_scripts, AreInputs}
 use Rattle.cg_files.specs.declared.file.FileKind.{FileKind}
 use Rattle.cg_files.specs.declared.file.FileKind.TheVariants.{Curve, Model, Session}
-use Rattle.cg_run.specs.Right.{IsRight, AreRight, EachIsRight}
+use Rattle.cg_run.specs.Run.{IsRightPrint}
 
 -- later files are accepted too
 last_ones : (told : Option Files) (files : List File) (first last : List Said) → AcceptsAll told files (first ++ last) → (now : Option Files) × (rest : List File) × AcceptsAll now rest last
@@ -53,11 +53,11 @@ curve_said Curve bytes curve says = says.is_curve
 curve_said Model bytes curve says = absurd says
 curve_said Session bytes curve says = absurd says
 
-first_curve : (told : Option Files) (files : List File) (curves : List NamedCurve) (others : List Said) → AcceptsAll told files (said_of_curves curves ++ others) →
-    IsCurveOrNone (rows_at curves (curve_number curves))
-first_curve told files [] others accepted = inl refl
-first_curve told [] (curve ∷ curves) others accepted = absurd accepted
-first_curve told (f ∷ files) (curve ∷ curves) others accepted = let read = (accepted.0) in inr (curve_said f.ref.kind read.0 curve read.3)
+first_is_curve : (told : Option Files) (files : List File) (curves : List NamedCurve) (others : List Said) → AcceptsAll told files (said_of_curves curves ++ others) →
+    IsCurveOrNone (first_curve curves)
+first_is_curve told files [] others accepted = inl refl
+first_is_curve told [] (curve ∷ curves) others accepted = absurd accepted
+first_is_curve told (f ∷ files) (curve ∷ curves) others accepted = let read = (accepted.0) in inr (curve_said f.ref.kind read.0 curve read.3)
 
 model_said : (kind : FileKind) (bytes : List ℕ) (model : StartModel) → Says kind bytes (a_model model.chronology) → IsSound model
 model_said Curve bytes model says = absurd says
@@ -73,7 +73,7 @@ models_sound told (f ∷ files) (model ∷ models) others accepted =
 
 -- What accepted files say of curves, models and scripts.
 record AreSound (inputs : Inputs) : Type 0 where
-  pub curve : IsCurveOrNone (rows_at inputs.curves (curve_number inputs.curves))
+  pub curve : IsCurveOrNone (first_curve inputs.curves)
   pub models : All IsSound inputs.models
   pub scripts : All AreFit inputs.scripts
 
@@ -85,47 +85,43 @@ sound told request inputs are =
     let all = subst (λ said. AcceptsAll told (files_of request) said) (append_assoc curves models scripts) are.accepted in
     let (now, rest, accepted) = last_ones told (files_of request) curves (models ++ scripts) all in
     record {
-      curve = first_curve told (files_of request) inputs.curves (models ++ scripts) all;
+      curve = first_is_curve told (files_of request) inputs.curves (models ++ scripts) all;
       models = models_sound now rest inputs.models scripts accepted;
       scripts = ready told request inputs are;
     }
 
-legal_front : (state : State) (earlier later : List Entry) → IsLegal state (earlier ++ later) → IsLegal state earlier
-legal_front state [] later legal = tt
-legal_front state (entry ∷ earlier) later legal = (legal.0, legal.1, legal_front (after state entry) earlier later legal.2)
-
 -- a print that is founded is right where the recipe is
-print_right : (inputs : Inputs) (print : Print) → RecipesAreRight → AreSound inputs → IsFounded (marginals_on inputs.curves).curve print → IsRight (marginals_on inputs.curves) print
+print_right : (inputs : Inputs) (print : Print) → RecipesAreRight → AreSound inputs → IsFounded (first_curve inputs.curves) print → IsRightPrint print
 print_right inputs print recipes are founded =
-    let scene = scene_of print.grid (marginals_on inputs.curves).curve in
-    let r = recipes print.chronology scene print.event founded.model (record { grid = founded.grid; curve = are.curve }) founded.covered founded.event in
-    record { holds = r.holds; recipe = refl; narrow = r.narrow }
+    let S : Scene → Type 0 = λ scene. IsScene scene in
+    let scene = subst S (sym founded.scene) (record { grid = founded.grid; curve = are.curve }) in
+    recipes print.chronology print.scene print.event founded.model scene founded.covered founded.event
 
-prints_right : (inputs : Inputs) (session : ℕ) (script : List Line) (entries : List Entry) → RecipesAreRight → PrintsAreFounded → AreSound inputs → AreFit script → IsLegal (start_of inputs.models) entries →
-    All (λ print. IsRight (marginals_on inputs.curves) print) (prints_in (marginals_on inputs.curves) session (start_of inputs.models) script entries)
-prints_right inputs session script entries recipes prints are fit legal =
-    let founded = prints (marginals_on inputs.curves) session inputs.models script entries are.models fit legal in
-    λ k print within. print_right inputs _ recipes are (founded k print within)
+session_right : (inputs : Inputs) (session : ℕ) (script : List Line) (entries : List Entry) (place : Place) → RecipesAreRight → PrintsAreFounded → AreSound inputs → AreFit script → IsLegal (start_of inputs.models) entries →
+    IsOver (first_curve inputs.curves) session (start_of inputs.models) script entries place → All IsRightPrint (prints_of place.written)
+session_right inputs session script entries place recipes prints are fit legal over =
+    let founded = prints (first_curve inputs.curves) session inputs.models script entries place are.models fit legal (course over) in
+    All-weaker (λ print. IsFounded (first_curve inputs.curves) print) IsRightPrint (λ print is. print_right inputs print recipes are is) (prints_of place.written) founded
+  where
+    course : IsOver (first_curve inputs.curves) session (start_of inputs.models) script entries place → IsCourse (first_curve inputs.curves) session (start_of inputs.models) script entries place
+    course (inl done) = inl done.0
+    course (inr stop) = inr stop
 
-session_right : (inputs : Inputs) (session : ℕ) (script : List Line) (entries : List Entry) → RecipesAreRight → PrintsAreFounded → AreSound inputs → AreFit script → IsLegal (start_of inputs.models) entries →
-    AreRight (marginals_on inputs.curves) session (start_of inputs.models) script entries
-session_right inputs session script entries recipes prints are fit legal = record {
-  whole = prints_right inputs session script entries recipes prints are fit legal;
-  stopped = λ commands earlier later parted.
-      prints_right inputs session (take commands script) earlier recipes prints are (All-take (λ (line : Line). IsFit line.command) commands script fit)
-      (legal_front (start_of inputs.models) earlier later (subst (λ (es : List Entry). IsLegal (start_of inputs.models) es) parted legal));
-}
+abbrev PrintsRight : Place → Type 0
+PrintsRight place = All IsRightPrint (prints_of place.written)
 
-each_session : (inputs : Inputs) (session : ℕ) (scripts : List (List Line)) (entries : List Entry) → RecipesAreRight → PrintsAreFounded → AreSound inputs → All AreFit scripts → IsLegal (start_of inputs.models) entries →
-    EachIsRight (marginals_on inputs.curves) session (start_of inputs.models) scripts entries
-each_session inputs session [] entries recipes prints are fit legal = tt
-each_session inputs session (script ∷ scripts) entries recipes prints are fit legal = (
-  session_right inputs session script entries recipes prints are (fit 0 script (omega arith)) legal,
-  each_session inputs (session + 1) scripts entries recipes prints are (λ i lines within. fit (suc i) lines (omega (arith, within))) legal,
-)
+each_session : (inputs : Inputs) (session : ℕ) (scripts : List (List Line)) (entries : List Entry) (places : List Place) → RecipesAreRight → PrintsAreFounded → AreSound inputs → All AreFit scripts → IsLegal (start_of inputs.models) entries →
+    AreOver (first_curve inputs.curves) session (start_of inputs.models) scripts entries places → All PrintsRight places
+each_session inputs session [] entries [] recipes prints are fit legal over = All-nil PrintsRight
+each_session inputs session [] entries (place ∷ places) recipes prints are fit legal over = absurd over
+each_session inputs session (script ∷ scripts) entries [] recipes prints are fit legal over = absurd over
+each_session inputs session (script ∷ scripts) entries (place ∷ places) recipes prints are fit legal over =
+    All-cons PrintsRight place places
+    (session_right inputs session script entries place recipes prints are (All-head AreFit script scripts fit) legal over.0)
+    (each_session inputs (session + 1) scripts entries places recipes prints are (All-tail AreFit script scripts fit) legal over.1)
 
 -- each marginal that the sessions of accepted files print is right
-pub each_right : (told : Option Files) (request : Request) (inputs : Inputs) (entries : List Entry) → RecipesAreRight → PrintsAreFounded → AreInputs told request inputs → IsLegal (start_of inputs.models) entries →
-    EachIsRight (marginals_on inputs.curves) 1 (start_of inputs.models) inputs.scripts entries
-each_right told request inputs entries recipes prints are legal =
-    each_session inputs 1 inputs.scripts entries recipes prints (sound told request inputs are) (ready told request inputs are) legal
+pub each_right : (told : Option Files) (request : Request) (inputs : Inputs) (entries : List Entry) (places : List Place) → RecipesAreRight → PrintsAreFounded → AreInputs told request inputs → IsLegal (start_of inputs.models) entries →
+    AreOver (first_curve inputs.curves) 1 (start_of inputs.models) inputs.scripts entries places → All PrintsRight places
+each_right told request inputs entries places recipes prints are legal over =
+    each_session inputs 1 inputs.scripts entries places recipes prints (sound told request inputs are) (ready told request inputs are) legal over

@@ -1,21 +1,23 @@
 -- How a run ends, by the words, the shelf's files, the journal and what the sink takes.
 use Rattle.std.specs.Prelude.{◌≡◌, ℕ, ◌<◌, Bool, true, false, List, length, take, Option}
-use Rattle.std.specs.List.{list_any, concat}
+use Rattle.std.specs.List.{All, concat}
 use Rattle.cg_io.specs.Shelf.{Files}
 use Rattle.cg_io.specs.Sink.{Takes}
+use Rattle.cg_recipe.specs.Recipe.{recipe}
+use Rattle.cg_recipe.specs.Laws.{IsRight}
 use Rattle.cg_sharing.specs.Versions.{start_of}
 use Rattle.cg_sharing.specs.Journal.{Entry, IsLegal}
+use Rattle.cg_sharing.specs.Pieces.{Print, prints_of}
 use Rattle.cg_sharing.specs.Course.{Place}
-use Rattle.cg_sharing.specs.Interleaving.{World, interleaving, transcripts_of}
-use Rattle.cg_session.specs.Standing.{marginals_on}
-use Rattle.cg_turns.specs.Run.{AreOver}
+use Rattle.cg_sharing.specs.Interleaving.{World, interleaving, IsInterleaving, some_stopped, transcripts_of, IsOfSession}
+use Rattle.cg_session.specs.Standing.{first_curve}
+use Rattle.cg_interleaving.specs.Run.{AreOver}
 use Rattle.cg_words.specs.Words.{Request, AreWords, AreNoWords}
 use Rattle.cg_files.specs.Shelf.{Reads}
 use Rattle.cg_files.specs.Reading as files
 use Rattle.cg_files.specs.Inputs.{Inputs, files_of, AreInputs}
 use Rattle.cg_files.specs.declared.file.FileFault.{FileFault}
 use Rattle.cg_files.specs.declared.file.FileFault.TheVariants as fault
-use Rattle.cg_run.specs.Right.{EachIsRight}
 use Rattle.cg_run.specs.declared.status.Status.{Status}
 use Rattle.cg_run.specs.declared.status.Status.TheVariants.{Done, Usage, ReadFault, Refused, WriteFault, NoMemory}
 
@@ -30,32 +32,36 @@ pub record ReadsAll (words : List (List ℕ)) (told now : Option Files) : Type 0
   pub asks : AreWords words request
   pub reads : Reads (length (files_of request)) told now
 
--- what sessions write that end at these places, in their order
-abbrev pub output_of : List Place → List ℕ
-output_of places = concat (transcripts_of 1 places)
-
--- The files are accepted, and their sessions ran. The journal is legal, the entries of each session are a course of its
--- script that is over, and the output is what these courses write, each marginal in it being right; it is told whether
--- want of memory stopped one.
-pub record HaveRun (words : List (List ℕ)) (told : Option Files) (journal : List Entry) (output : List ℕ) (stopped : Bool) : Type 0 where
+-- The files are accepted, and their sessions took the turns of the words, in any of which want of memory may have stopped
+-- one: the journal is that of the world where this led. It is legal, each entry is of one of the sessions, and the entries
+-- of each session are a course of its script that is over.
+pub record IsJournal (words : List (List ℕ)) (told : Option Files) (journal : List Entry) : Type 0 where
   pub request : Request
   pub inputs : Inputs
   pub accepted : AreAccepted words told request inputs
+  pub world : World
+  pub interleaved : IsInterleaving (first_curve inputs.curves) inputs.models inputs.scripts request.turns world
+  pub is : journal ≡ world.journal
   pub legal : IsLegal (start_of inputs.models) journal
-  pub places : List Place
-  pub over : AreOver (marginals_on inputs.curves) 1 (start_of inputs.models) inputs.scripts journal places
-  pub some : stopped ≡ list_any (λ place. place.stopped) places
-  pub written : output ≡ output_of places
-  pub right : EachIsRight (marginals_on inputs.curves) 1 (start_of inputs.models) inputs.scripts journal
+  pub seats : All (IsOfSession (length inputs.scripts)) journal
+  pub over : AreOver (first_curve inputs.curves) 1 (start_of inputs.models) inputs.scripts journal world.places
 
--- what the sessions come to in the turns of the request
-abbrev pub world_of : Request → Inputs → World
-world_of request inputs = interleaving (marginals_on inputs.curves) inputs.models inputs.scripts request.turns
+-- what sessions write that end at these places, in their order
+abbrev pub output_of : List Place → List ℕ
+output_of places = concat (transcripts_of recipe 1 places)
 
--- The journal and the output are those of the turns.
-pub record AreOfTurns (request : Request) (inputs : Inputs) (journal : List Entry) (output : List ℕ) : Type 0 where
-  pub events : journal ≡ (world_of request inputs).journal
-  pub written : output ≡ output_of (world_of request inputs).places
+-- the marginal that is printed holds for every admitted weighting of the print's model, in its scene, and is narrow
+abbrev pub IsRightPrint : Print → Type 0
+IsRightPrint print = IsRight print.chronology print.scene print.event
+
+-- The sessions ran, and the output is what they wrote, each marginal in it being right. It is told whether want of memory
+-- stopped one; where it stopped none, the turns decide all.
+pub record HaveRun (words : List (List ℕ)) (told : Option Files) (journal : List Entry) (output : List ℕ) (stopped : Bool) : Type 0 where
+  pub entries : IsJournal words told journal
+  pub some : stopped ≡ some_stopped entries.world.places
+  pub whole : stopped ≡ false → entries.world ≡ interleaving (first_curve entries.inputs.curves) entries.inputs.models entries.inputs.scripts entries.request.turns
+  pub written : output ≡ output_of entries.world.places
+  pub right : All (λ place. All IsRightPrint (prints_of place.written)) entries.world.places
 
 -- The sink took all of the output.
 pub record TakesAll (before after : Option (List ℕ)) (output : List ℕ) (taken : ℕ) : Type 0 where
@@ -66,7 +72,6 @@ pub record TakesAll (before after : Option (List ℕ)) (output : List ℕ) (take
 pub record IsDone (words : List (List ℕ)) (told : Option Files) (before after : Option (List ℕ)) (journal : List Entry) (taken : ℕ) : Type 0 where
   pub output : List ℕ
   pub ran : HaveRun words told journal output false
-  pub turns : AreOfTurns ran.request ran.inputs journal output
   pub took : TakesAll before after output taken
 
 -- Only the first bytes of the output were taken.
@@ -74,22 +79,14 @@ pub record IsCutOff (words : List (List ℕ)) (told : Option Files) (before afte
   pub output : List ℕ
   pub stopped : Bool
   pub ran : HaveRun words told journal output stopped
-  pub turns : stopped ≡ false → AreOfTurns ran.request ran.inputs journal output
   pub took : Takes before after (take taken output)
   pub fewer : taken < length output
 
 -- Want of memory stopped a session, and all of the output was taken.
-pub record IsStopped (words : List (List ℕ)) (told : Option Files) (before after : Option (List ℕ)) (journal : List Entry) (taken : ℕ) : Type 0 where
+pub record HasStopped (words : List (List ℕ)) (told : Option Files) (before after : Option (List ℕ)) (journal : List Entry) (taken : ℕ) : Type 0 where
   pub output : List ℕ
   pub ran : HaveRun words told journal output true
   pub took : TakesAll before after output taken
-
--- A legal journal of the models of accepted files.
-pub record IsJournal (words : List (List ℕ)) (told : Option Files) (journal : List Entry) : Type 0 where
-  pub request : Request
-  pub inputs : Inputs
-  pub accepted : AreAccepted words told request inputs
-  pub legal : IsLegal (start_of inputs.models) journal
 
 -- Reads of the files that the words ask for ended in this fault, at the last one.
 pub record EndsAt (words : List (List ℕ)) (told now : Option Files) (why : FileFault) : Type 0 where
@@ -104,13 +101,13 @@ pub record FilesCause (words : List (List ℕ)) (told : Option Files) (why : Fil
   pub cause : files.CausesFault told (files_of request) why
 
 -- what ends a run before a session begins
-abbrev pub Causes : List (List ℕ) → Option Files → Status → Type 0
-Causes words told Done = ⊥
-Causes words told Usage = AreNoWords words
-Causes words told (ReadFault file) = FilesCause words told (fault.Failed file)
-Causes words told (Refused file line cause) = FilesCause words told (fault.Refused file line cause)
-Causes words told WriteFault = ⊥
-Causes words told NoMemory = ⊥
+abbrev pub CausesStatus : List (List ℕ) → Option Files → Status → Type 0
+CausesStatus words told Done = ⊥
+CausesStatus words told Usage = AreNoWords words
+CausesStatus words told (ReadFault file) = FilesCause words told (fault.Failed file)
+CausesStatus words told (Refused file line cause) = FilesCause words told (fault.Refused file line cause)
+CausesStatus words told WriteFault = ⊥
+CausesStatus words told NoMemory = ⊥
 
 -- the statuses of runs of which no session began
 abbrev pub BeginsNone : Status → Type 0

@@ -43,13 +43,13 @@ abbrev pub refusal_text : FileRef → ℕ → FileCause → List ℕ
 refusal_text file line cause = file_text file ++ codes " line " ++ decimal line ++ codes ": " ++ cause_text cause
 
 -- the line that tells of a status; there is nothing to tell of a run that is done
-abbrev pub line_of : Status → List ℕ
-line_of Done = []
-line_of Usage = codes "usage\n"
-line_of (ReadFault file) = (codes "read fault: " ++ file_text file) ++ (10 ∷ [])
-line_of (Refused file line cause) = refusal_text file line cause ++ (10 ∷ [])
-line_of WriteFault = codes "write fault\n"
-line_of NoMemory = codes "out of memory\n"
+abbrev pub status_text : Status → List ℕ
+status_text Done = []
+status_text Usage = codes "usage\n"
+status_text (ReadFault file) = (codes "read fault: " ++ file_text file) ++ (10 ∷ [])
+status_text (Refused file line cause) = refusal_text file line cause ++ (10 ∷ [])
+status_text WriteFault = codes "write fault\n"
+status_text NoMemory = codes "out of memory\n"
 
 -- the exit code of the program
 abbrev pub code_of : Status → ℕ

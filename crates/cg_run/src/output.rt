@@ -4,13 +4,13 @@ ghost use Rattle.std.specs.Prelude.{◌≡◌, ◌≢◌, ◌⊎◌, ◌<◌, �
 ghost use Rattle.std.specs.List.{concat};
 ghost use Rattle.cg_io.specs.Causes.{Rose};
 ghost use Rattle.cg_io.specs.Sink.{Takes};
-ghost use Rattle.cg_turns.specs.Run.{written_in};
+ghost use Rattle.cg_interleaving.specs.Run.{written_in};
 ghost use Rattle.cg_run.specs.Run.{TakesAll};
 ghost use Rattle.cg_run.specs.Status.{status_after};
 
 use crate::status::{Ended, Status};
+use cg_interleaving::Run;
 use cg_io::{Sink, Written, write_whole};
-use cg_turns::Run;
 
 /// Whether `usize` holds the number of bytes of all texts.
 fn fits_usize(texts: &[Vec<u8>]) -> bool

@@ -1,7 +1,7 @@
 //! How a run ends.
 
 ghost use Rattle.std.specs.Prelude.{◌≡◌, ◌++◌, ◌∷◌, [], codes, IfOk, OnOk};
-ghost use Rattle.cg_run.specs.Status.{kind_text, curve_text, cause_text, file_text, refusal_text, line_of, code_of};
+ghost use Rattle.cg_run.specs.Status.{kind_text, curve_text, cause_text, file_text, refusal_text, status_text, code_of};
 
 use cg_book::Journal;
 use cg_curve::CurveFault;
@@ -128,7 +128,7 @@ fn fault_line(alloc: Global, file: &FileRef) -> Result<Vec<u8>, NoMemory>
 
 /// The line that tells of a status, with its end: no bytes for `Done`.
 pub fn status_line(alloc: Global, status: &Status) -> Result<Vec<u8>, NoMemory>
-    ensures { IfOk result (λ text. text.items ≡ line_of status.now) }
+    ensures { IfOk result (λ text. text.items ≡ status_text status.now) }
 {
     match status {
         Status::Done => Ok(Vec::new(alloc)),

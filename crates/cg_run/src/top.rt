@@ -3,24 +3,22 @@
 ghost use Rattle.std.specs.Prelude.{◌≡◌, ◌⊎◌, ◌<◌, ◌≤◌, [], false, length, map, string_bytes, All, IfOk, Some};
 ghost use Rattle.cg_io.specs.Causes.{Rose};
 ghost use Rattle.cg_sharing.specs.Course.{AreFit};
-ghost use Rattle.cg_sharing.specs.Versions.{start_of};
-ghost use Rattle.cg_sharing.specs.Journal.{IsLegal};
-ghost use Rattle.cg_session.specs.Standing.{marginals_on};
-ghost use Rattle.cg_turns.specs.Run.{HasCourses, IsInterleaving};
+ghost use Rattle.cg_session.specs.Standing.{first_curve};
+ghost use Rattle.cg_interleaving.specs.Run.{IsRunOf};
 ghost use Rattle.cg_words.specs.Words.{AreNoWords};
-ghost use Rattle.cg_run.specs.Run.{AreAccepted, ReadsAll, IsDone, IsCutOff, IsStopped, IsJournal, EndsAt, Causes, BeginsNone};
+ghost use Rattle.cg_run.specs.Run.{AreAccepted, ReadsAll, IsDone, IsCutOff, HasStopped, IsJournal, EndsAt, CausesStatus, BeginsNone};
 ghost use Rattle.cg_run.specs.Status.{status_of};
 
 use crate::output::write_run;
 use crate::status::{Ended, Status};
 use cg_book::Journal;
 use cg_files::{FileFault, Inputs, read_all};
+use cg_interleaving::{Run, run_in_turns};
 use cg_io::{Shelf, Sink};
 use cg_num::NoMemory;
 use cg_prints::prints_are_founded;
 use cg_recipe::recipes_are_right;
 use cg_table::Steps;
-use cg_turns::{Run, run_in_turns};
 use cg_words::request_of;
 use std::alloc::Global;
 use std::marker::Brand;
@@ -61,9 +59,7 @@ fn run_sessions<L: Ledger>(
     requires name { blank.name ≡ L.name }
     requires parts { blank.parts ≡ L.parts }
     requires some { 0 < L.parts }
-    ensures legal { IfOk result (λ run. IsLegal (start_of inputs.models) run.journal) }
-    ensures courses { IfOk result (λ run. HasCourses (marginals_on inputs.curves) inputs.models inputs.scripts.items run) }
-    ensures whole { IfOk result (λ run. run.stopped ≡ false → IsInterleaving (marginals_on inputs.curves) inputs.models inputs.scripts.items turns.now run) }
+    ensures { IfOk result (λ run. IsRunOf (first_curve inputs.curves) inputs.models inputs.scripts.items turns.now run) }
 {
     let mut steps = Steps::<L>::open(blank);
     let Inputs {
@@ -107,11 +103,11 @@ pub fn run_alone<H: Shelf, K: Sink>(
 
     // Where a session was stopped the output is written all the same; want of memory elsewhere writes nothing.
     ensures no_memory { result.status ≡ Status.NoMemory
-        → IsStopped (map string_bytes words.now) (H.told shelf.old) (K.taken out.old) (K.taken out.new) result.journal result.taken
+        → HasStopped (map string_bytes words.now) (H.told shelf.old) (K.taken out.old) (K.taken out.new) result.journal result.taken
         ⊎ ((out.new ≡ out.old) × (result.taken ≡ 0)) }
 
     // Where the shelf tells its files, each cause has its status, want of memory aside.
-    ensures exact { (files : _) (status : _) → H.told shelf.old ≡ Some files → Causes (map string_bytes words.now) (Some files) status
+    ensures exact { (files : _) (status : _) → H.told shelf.old ≡ Some files → CausesStatus (map string_bytes words.now) (Some files) status
         → (result.status ≡ status) ⊎ (result.status ≡ Status.NoMemory) }
 
     // Files that are accepted lead to an output that is written whole, but for want of memory or a fault of the sink.
@@ -121,7 +117,7 @@ pub fn run_alone<H: Shelf, K: Sink>(
     // Before a session began, nothing is written.
     ensures unwritten { BeginsNone result.status → (out.new ≡ out.old) × (result.taken ≡ 0) × (result.journal ≡ []) }
 
-    // At every status.
+    // At every status, also where the output of sessions that ran isn't written for want of memory.
     ensures journal { (result.journal ≡ []) ⊎ IsJournal (map string_bytes words.now) (H.told shelf.old) result.journal }
 {
     recipes_are_right();

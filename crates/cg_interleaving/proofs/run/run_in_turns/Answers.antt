@@ -1,6 +1,5 @@
-use Rattle.std.proofs.Common.{◌≡◌, ◌∙◌, length, arith, map}
+use Rattle.std.proofs.Common.{◌∙◌, arith}
 use Rattle.cg_session.specs.Standing.{first_curve}
-use Rattle.cg_session.specs.Session.{script_of}
 use Rattle.cg_sharing.specs.Interleaving.{begun}
 use Rattle.cg_interleaving.proofs.EndLemmas.{is_run, same_length, script_count}
 use Rattle.cg_interleaving.proofs.run.run_in_turns.Goals as goal

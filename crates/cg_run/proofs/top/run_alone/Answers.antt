@@ -1,10 +1,10 @@
 use Rattle.std.proofs.Common.{map, string_bytes, sym, subst, ◌∙◌, inl, inr}
 use Rattle.cg_words.specs.Words.{AreWords}
 use Rattle.cg_files.specs.Inputs.{inputs_in}
-use Rattle.cg_run.specs.Run.{IsDone, IsCutOff, IsStopped}
+use Rattle.cg_run.specs.Run.{IsJournal, IsDone, IsCutOff, HasStopped}
 use Rattle.cg_run.proofs.CauseLemmas.{unasked, ended_at, exact, exact_ran, complete}
 use Rattle.cg_run.proofs.InputsLemmas.{ready}
-use Rattle.cg_run.proofs.RunLemmas.{turns_same, done, stopped, cut_off}
+use Rattle.cg_run.proofs.RunLemmas.{turns_same, journal_of, done, stopped, cut_off}
 use Rattle.cg_run.proofs.top.run_alone.Goals as goal
 
 pub returns-in-Ok-None-clause-exact : goal.returns-in-Ok-None-clause-exact
@@ -43,8 +43,8 @@ returns-in-Ok-run_sessions-clause-done g c = λ e.
     let words = map string_bytes c.args.words.now in let told = g.H.Shelf.told c.args.shelf.now in
     let asks : AreWords words c.in-Ok-Some.request = rw c.in-Ok-Some.field-0-is at c.in-Ok-Some.ensures.some in
     subst (λ journal. IsDone words told (g.K.Sink.taken c.args.out.now) (g.K.Sink.taken c.write_run.new.out) journal c.write_run.result.taken) (sym c.write_run.ensures.journal)
-    (done words told c.in-Ok-Some.request (inputs_in c.in-Ok.inputs) c.in-Ok-run_sessions.run' (record { asks = asks; files = c.in-Ok.ensures.inputs }) c.in-Ok-run_sessions.ensures.legal
-    c.in-Ok-run_sessions.ensures.courses (turns_same (inputs_in c.in-Ok.inputs) _ _ c.turns.ensures.turns c.in-Ok-run_sessions.run' c.in-Ok-run_sessions.ensures.whole)
+    (done words told c.in-Ok-Some.request (inputs_in c.in-Ok.inputs) c.in-Ok-run_sessions.run' (record { asks = asks; files = c.in-Ok.ensures.inputs })
+    (turns_same (inputs_in c.in-Ok.inputs) _ _ c.turns.ensures.turns c.in-Ok-run_sessions.run' c.in-Ok-run_sessions.ensures)
     c.recipes_are_right.ensures c.prints_are_founded.ensures _ _ _ (c.write_run.ensures.done e))
 
 pub returns-in-Ok-run_sessions-clause-write_fault : goal.returns-in-Ok-run_sessions-clause-write_fault
@@ -54,7 +54,7 @@ returns-in-Ok-run_sessions-clause-write_fault g c = λ e.
     let cut = c.write_run.ensures.cut_off e in (
       subst (λ journal. IsCutOff words told (g.K.Sink.taken c.args.out.now) (g.K.Sink.taken c.write_run.new.out) journal c.write_run.result.taken) (sym c.write_run.ensures.journal)
           (cut_off words told c.in-Ok-Some.request (inputs_in c.in-Ok.inputs) c.in-Ok-run_sessions.run' (record { asks = asks; files = c.in-Ok.ensures.inputs })
-          c.in-Ok-run_sessions.ensures.legal c.in-Ok-run_sessions.ensures.courses (turns_same (inputs_in c.in-Ok.inputs) _ _ c.turns.ensures.turns c.in-Ok-run_sessions.run' c.in-Ok-run_sessions.ensures.whole)
+          (turns_same (inputs_in c.in-Ok.inputs) _ _ c.turns.ensures.turns c.in-Ok-run_sessions.run' c.in-Ok-run_sessions.ensures)
           c.recipes_are_right.ensures c.prints_are_founded.ensures _ _ _ cut.0 cut.1),
       cut.2,
     )
@@ -65,9 +65,9 @@ returns-in-Ok-run_sessions-clause-no_memory g c = λ e.
     let asks : AreWords words c.in-Ok-Some.request = rw c.in-Ok-Some.field-0-is at c.in-Ok-Some.ensures.some in
     elim (c.write_run.ensures.stopped e) [
       | inl all ↦
-          inl (subst (λ journal. IsStopped words told (g.K.Sink.taken c.args.out.now) (g.K.Sink.taken c.write_run.new.out) journal c.write_run.result.taken) (sym c.write_run.ensures.journal)
-          (stopped words told c.in-Ok-Some.request (inputs_in c.in-Ok.inputs) c.in-Ok-run_sessions.run' (record { asks = asks; files = c.in-Ok.ensures.inputs }) c.in-Ok-run_sessions.ensures.legal
-          c.in-Ok-run_sessions.ensures.courses (turns_same (inputs_in c.in-Ok.inputs) _ _ c.turns.ensures.turns c.in-Ok-run_sessions.run' c.in-Ok-run_sessions.ensures.whole)
+          inl (subst (λ journal. HasStopped words told (g.K.Sink.taken c.args.out.now) (g.K.Sink.taken c.write_run.new.out) journal c.write_run.result.taken) (sym c.write_run.ensures.journal)
+          (stopped words told c.in-Ok-Some.request (inputs_in c.in-Ok.inputs) c.in-Ok-run_sessions.run' (record { asks = asks; files = c.in-Ok.ensures.inputs })
+          (turns_same (inputs_in c.in-Ok.inputs) _ _ c.turns.ensures.turns c.in-Ok-run_sessions.run' c.in-Ok-run_sessions.ensures)
           c.recipes_are_right.ensures c.prints_are_founded.ensures _ _ _ all))
       | inr none ↦ inr none
     ]
@@ -77,3 +77,11 @@ returns-in-Ok-run_sessions-clause-exact g c =
     let words = map string_bytes c.args.words.now in let told = g.H.Shelf.told c.args.shelf.now in
     let asks : AreWords words c.in-Ok-Some.request = rw c.in-Ok-Some.field-0-is at c.in-Ok-Some.ensures.some in
     exact_ran words told c.write_run.result.status c.in-Ok-Some.request (inputs_in c.in-Ok.inputs) (record { asks = asks; files = c.in-Ok.ensures.inputs })
+
+pub returns-in-Ok-run_sessions-clause-journal : goal.returns-in-Ok-run_sessions-clause-journal
+returns-in-Ok-run_sessions-clause-journal g c =
+    let words = map string_bytes c.args.words.now in let told = g.H.Shelf.told c.args.shelf.now in
+    let asks : AreWords words c.in-Ok-Some.request = rw c.in-Ok-Some.field-0-is at c.in-Ok-Some.ensures.some in
+    inr (subst (λ journal. IsJournal words told journal) (sym c.write_run.ensures.journal)
+    (journal_of words told c.in-Ok-Some.request (inputs_in c.in-Ok.inputs) c.in-Ok-run_sessions.run' (record { asks = asks; files = c.in-Ok.ensures.inputs })
+    (turns_same (inputs_in c.in-Ok.inputs) _ _ c.turns.ensures.turns c.in-Ok-run_sessions.run' c.in-Ok-run_sessions.ensures) c.recipes_are_right.ensures c.prints_are_founded.ensures))

@@ -1,4 +1,4 @@
-use Rattle.std.proofs.Common.{◌∙◌, Bool, length, subst, arith}
+use Rattle.std.proofs.Common.{◌∙◌, Bool, subst, arith}
 use Rattle.cg_session.specs.Standing.{first_curve}
 use Rattle.cg_interleaving.specs.Taking.{HasTurned}
 use Rattle.cg_interleaving.proofs.EndLemmas.{same_length}

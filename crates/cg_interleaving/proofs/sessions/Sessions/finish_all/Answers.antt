@@ -1,4 +1,4 @@
-use Rattle.std.proofs.Common.{◌∙◌, ℕ, suc, ◌+◌, ◌≡◌, length, subst, sym, arith}
+use Rattle.std.proofs.Common.{◌∙◌, ℕ, suc, ◌+◌, ◌≡◌, subst, sym, arith}
 use Rattle.cg_session.specs.Standing.{first_curve}
 use Rattle.cg_interleaving.specs.Taking.{HaveRunOut}
 use Rattle.cg_interleaving.proofs.EndLemmas.{same_length}

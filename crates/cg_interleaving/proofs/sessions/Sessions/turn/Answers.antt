@@ -1,6 +1,6 @@
 use Rattle.std.proofs.Common.{◌≤◌, ◌+◌, length, arith}
 use Rattle.cg_session.specs.Standing.{first_curve}
-use Rattle.cg_interleaving.proofs.FinishLemmas.{turn_taken, passed}
+use Rattle.cg_interleaving.proofs.FinishLemmas.{passed}
 use Rattle.cg_interleaving.proofs.sessions.Sessions.turn.Goals.{else-number-ge1-via-then-number-ge1+else-number-len, else-number-ge1-via-else-number-ge1}
 use Rattle.cg_interleaving.proofs.sessions.Sessions.turn.Goals as goal
 
