@@ -1,6 +1,7 @@
 -- How a run ends, by the words, the shelf's files, the journal and what the sink takes.
 use Rattle.std.specs.Prelude.{◌≡◌, ℕ, ◌<◌, Bool, true, false, List, length, take, Option}
 use Rattle.std.specs.List.{All, concat}
+use Rattle.cg_meaning.specs.Tree.{root_of}
 use Rattle.cg_io.specs.Shelf.{Files}
 use Rattle.cg_io.specs.Sink.{Takes}
 use Rattle.cg_recipe.specs.Recipe.{recipe}
@@ -52,7 +53,7 @@ output_of places = concat (transcripts_of recipe 1 places)
 
 -- the marginal that is printed holds for every admitted weighting of the print's model, in its scene, and is narrow
 abbrev pub IsRightPrint : Print → Type 0
-IsRightPrint print = IsRight print.chronology print.scene print.event
+IsRightPrint print = IsRight (root_of print.chronology) print.scene print.event
 
 -- The sessions ran, and the output is what they wrote, each marginal in it being right. It is told whether want of memory
 -- stopped one; where it stopped none, the turns decide all.

@@ -13,14 +13,14 @@ use Rattle.cg_run.specs.declared.status.Status.{Status}
 use Rattle.cg_run.specs.declared.status.Status.TheVariants.{Done, Usage, ReadFault, Refused, WriteFault, NoMemory}
 
 -- the word for what a file is read for
-abbrev pub kind_text : FileKind → List ℕ
-kind_text kinds.Curve = codes "curve "
-kind_text kinds.Model = codes "model "
-kind_text kinds.Session = codes "session "
+abbrev pub file_kind_text : FileKind → List ℕ
+file_kind_text kinds.Curve = codes "curve "
+file_kind_text kinds.Model = codes "model "
+file_kind_text kinds.Session = codes "session "
 
 -- a file by its kind and its number
 abbrev pub file_text : FileRef → List ℕ
-file_text file = kind_text file.kind ++ decimal file.number
+file_text file = file_kind_text file.kind ++ decimal file.number
 
 -- why a curve file is refused; want of memory is no cause
 abbrev pub curve_text : CurveFault → List ℕ
@@ -33,14 +33,14 @@ curve_text curve.TooFew = codes "too few"
 curve_text curve.NoMemory = codes "out of memory"
 
 -- why a file is refused
-abbrev pub cause_text : FileCause → List ℕ
-cause_text TooLong = codes "too long"
-cause_text (Curve fault) = curve_text fault
-cause_text Form = codes "form"
+abbrev pub file_cause_text : FileCause → List ℕ
+file_cause_text TooLong = codes "too long"
+file_cause_text (Curve fault) = curve_text fault
+file_cause_text Form = codes "form"
 
 -- the file, the line, and why
 abbrev pub refusal_text : FileRef → ℕ → FileCause → List ℕ
-refusal_text file line cause = file_text file ++ codes " line " ++ decimal line ++ codes ": " ++ cause_text cause
+refusal_text file line cause = file_text file ++ codes " line " ++ decimal line ++ codes ": " ++ file_cause_text cause
 
 -- the line that tells of a status; there is nothing to tell of a run that is done
 abbrev pub status_text : Status → List ℕ

@@ -1,7 +1,7 @@
 //! How a run ends.
 
 ghost use Rattle.std.specs.Prelude.{◌≡◌, ◌++◌, ◌∷◌, [], codes, IfOk, OnOk};
-ghost use Rattle.cg_run.specs.Status.{kind_text, curve_text, cause_text, file_text, refusal_text, status_text, code_of};
+ghost use Rattle.cg_run.specs.Status.{file_kind_text, curve_text, file_cause_text, file_text, refusal_text, status_text, code_of};
 
 use cg_book::Journal;
 use cg_curve::CurveFault;
@@ -54,8 +54,8 @@ impl Status {
     }
 }
 
-fn kind_text(kind: FileKind) -> &'static [u8]
-    ensures { result.now ≡ kind_text kind }
+fn file_kind_text(kind: FileKind) -> &'static [u8]
+    ensures { result.now ≡ file_kind_text kind }
 {
     match kind {
         FileKind::Curve => b"curve ",
@@ -78,8 +78,8 @@ fn curve_text(fault: CurveFault) -> &'static [u8]
     }
 }
 
-fn cause_text(cause: FileCause) -> &'static [u8]
-    ensures { result.now ≡ cause_text cause }
+fn file_cause_text(cause: FileCause) -> &'static [u8]
+    ensures { result.now ≡ file_cause_text cause }
 {
     match cause {
         FileCause::TooLong => b"too long",
@@ -92,7 +92,7 @@ fn push_file(file: &FileRef, out: &mut Vec<u8>) -> Result<(), NoMemory>
     ensures { OnOk result (out.new.items ≡ out.old.items ++ file_text file.now) }
 {
     let mut digits = Buffer::new();
-    out.extend_from_slice(kind_text(file.kind))?;
+    out.extend_from_slice(file_kind_text(file.kind))?;
     out.extend_from_slice(digits.format(file.number).as_bytes())?;
     Ok(())
 }
@@ -111,7 +111,7 @@ fn refusal_line(
     text.extend_from_slice(b" line ")?;
     text.extend_from_slice(digits.format(line).as_bytes())?;
     text.extend_from_slice(b": ")?;
-    text.extend_from_slice(cause_text(cause))?;
+    text.extend_from_slice(file_cause_text(cause))?;
     text.extend_from_slice(b"\n")?;
     Ok(text)
 }
