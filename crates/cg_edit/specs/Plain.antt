@@ -37,11 +37,11 @@ fault_in (Limit limit) = Some (meaning.Past limit)
 fault_in NoMemory = None
 
 -- the change is refused for this fault, or for want of memory
-abbrev pub IsRefused : Chronology → meaning.Edit → Option meaning.EditFault → Type 0
-IsRefused before edit None = Unit {0}
-IsRefused before edit (Some fault) = result_of edit before.top ≡ Err fault
+abbrev pub IsRefusedChange : Chronology → meaning.Edit → Option meaning.EditFault → Type 0
+IsRefusedChange before edit None = Unit {0}
+IsRefusedChange before edit (Some fault) = result_of edit before.top ≡ Err fault
 
 -- the outcome of a change: the changed statements, the curve's name being as before, or the fault
 abbrev pub IsOutcome : Chronology → meaning.Edit → Result Chronology EditFault → Type 0
 IsOutcome before edit (Ok after) = (result_of edit before.top ≡ Ok after.top) × (after.curve ≡ before.curve)
-IsOutcome before edit (Err fault) = IsRefused before edit (fault_in fault)
+IsOutcome before edit (Err fault) = IsRefusedChange before edit (fault_in fault)

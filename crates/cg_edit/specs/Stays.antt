@@ -13,14 +13,14 @@ pub data Mark : Type 0 where
 
 -- the marks of a node, and of statements one after another
 abbrev mutual
-  pub text_of : Tree → List Mark
-  text_of (Leaf name dating) = Dated name dating ∷ []
-  text_of (Boundary name) = Bound name ∷ []
-  text_of (Group kind name ts) = Opens kind name ∷ (text_of_all ts ++ Closes ∷ [])
+  pub marks_of : Tree → List Mark
+  marks_of (Leaf name dating) = Dated name dating ∷ []
+  marks_of (Boundary name) = Bound name ∷ []
+  marks_of (Group kind name ts) = Opens kind name ∷ (marks_of_all ts ++ Closes ∷ [])
 
-  pub text_of_all : Trees → List Mark
-  text_of_all none = []
-  text_of_all (more t ts) = text_of t ++ text_of_all ts
+  pub marks_of_all : Trees → List Mark
+  marks_of_all none = []
+  marks_of_all (more t ts) = marks_of t ++ marks_of_all ts
 
 -- A text that is as before, but that the new part stands in place of the old one.
 pub record IsOnlyChange (old new before after : List Mark) : Type 0 where
@@ -39,15 +39,15 @@ with_name new (Group kind name ts) = Group kind new ts
 -- its members; or before one node of its name the other comes, or one node of its name goes, or has the new one.
 abbrev pub ElseStays : Edit → Trees → Trees → Type 0
 ElseStays (Set name dating) before after =
-    (old : Dating) × IsOnlyChange (text_of (Leaf name old)) (text_of (Leaf name dating)) (text_of_all before) (text_of_all after)
+    (old : Dating) × IsOnlyChange (marks_of (Leaf name old)) (marks_of (Leaf name dating)) (marks_of_all before) (marks_of_all after)
 ElseStays (Add name node) before after =
-    (group : Kind × Trees) × IsOnlyChange (text_of (Group group.0 name group.1)) (text_of (Group group.0 name (trees_with group.1 node))) (text_of_all before) (text_of_all after)
+    (group : Kind × Trees) × IsOnlyChange (marks_of (Group group.0 name group.1)) (marks_of (Group group.0 name (trees_with group.1 node))) (marks_of_all before) (marks_of_all after)
 ElseStays (InsertBefore name node) before after =
-    (t : Tree) × (name_of t ≡ name) × IsOnlyChange (text_of t) (text_of node ++ text_of t) (text_of_all before) (text_of_all after)
+    (t : Tree) × (name_of t ≡ name) × IsOnlyChange (marks_of t) (marks_of node ++ marks_of t) (marks_of_all before) (marks_of_all after)
 ElseStays (Drop name) before after =
-    (t : Tree) × (name_of t ≡ name) × IsOnlyChange (text_of t) [] (text_of_all before) (text_of_all after)
+    (t : Tree) × (name_of t ≡ name) × IsOnlyChange (marks_of t) [] (marks_of_all before) (marks_of_all after)
 ElseStays (Rename name new) before after =
-    (t : Tree) × (name_of t ≡ name) × IsOnlyChange (text_of t) (text_of (with_name new t)) (text_of_all before) (text_of_all after)
+    (t : Tree) × (name_of t ≡ name) × IsOnlyChange (marks_of t) (marks_of (with_name new t)) (marks_of_all before) (marks_of_all after)
 
 -- whenever a change is accepted all else stays
 abbrev pub AllElseStays : Type 0

@@ -4,7 +4,7 @@ ghost use Rattle.cg_meaning.specs.Tree.{Trees};
 ghost use Rattle.cg_sharing.specs.Edit.{result_of};
 ghost use Rattle.cg_sharing.specs.Versions.{start_of, count_of, head_of, parent_of, chronology_of, with_head, with_version};
 ghost use Rattle.cg_sharing.specs.Journal.{IsInOrder};
-ghost use Rattle.cg_edit.specs.Plain.{edit_in, fault_in, IsRefused};
+ghost use Rattle.cg_edit.specs.Plain.{edit_in, fault_in, IsRefusedChange};
 ghost use Rattle.cg_versions.specs.Plain.{with_model};
 
 use crate::fault::{CommitFault, TakeFault};
@@ -136,7 +136,7 @@ impl Versions {
             × (self.new ≡ with_version number top self.old))) }
         ensures tree { IfOk result (λ made. arc_value made.1 ≡ chronology_of self.new made.0) }
         ensures refused { IfErr result (λ fault.
-            IsRefused (chronology_of self.old number) (edit_in edit.now) (fault_in fault)) }
+            IsRefusedChange (chronology_of self.old number) (edit_in edit.now) (fault_in fault)) }
         ensures err { OnErr result (self.new ≡ self.old) }
     {
         let changed = apply(alloc, self.tree_at(number), edit)?;

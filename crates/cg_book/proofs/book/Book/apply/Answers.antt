@@ -9,7 +9,7 @@ pub invariant_of-self-2 : goal.invariant_of-self-2
 invariant_of-self-2 c =
     let event = asked c.args.event in
     rw (c.push_reserved.ensures.items, map-append, c.in-Ok.ensures.items)
-    (noted c.args.seat (act_in c.of-act.result) event (answer_in c.in-Some.answer) (answered c.reply-reply.result) c.of-act.ensures c.in-Some.ensures c.self.invariant
+    (noted _ (act_in c.of-act.result) event (answer_in c.in-Some.answer) (answered c.reply-reply.result) c.of-act.ensures c.in-Some.ensures c.self.invariant
     (may-now _ _ event c.self.view_is c.self.invariant c.requires) c.reply-reply.ensures.step)
 
 pub returns-clause-carries : goal.returns-clause-carries
