@@ -6,8 +6,6 @@
 
 mod fault;
 mod start;
-#[cfg(test)]
-mod tests;
 mod versions;
 
 pub use fault::{CommitFault, TakeFault};

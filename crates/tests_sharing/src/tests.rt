@@ -1,0 +1,4 @@
+//! One file for each crate, and what they share.
+mod book;
+mod texts;
+mod versions;
