@@ -1,7 +1,7 @@
 //! The files of one kind, one after the other.
 
 ghost use Rattle.std.specs.Prelude.{◌≡◌, ◌≢◌, ◌≤◌, length, map, AllPairs, IfOk, IfErr};
-ghost use Rattle.cg_curve.specs.Curves.{IsSameName};
+ghost use Rattle.cg_curve.specs.Curves.{IsSameCurveName};
 ghost use Rattle.cg_files.specs.Reading.{AreRead, EndsWith, HasRisen};
 ghost use Rattle.cg_files.specs.Inputs.{names_of, curve_files, model_files, session_files, said_of_curves, said_of_models, said_of_scripts};
 
@@ -22,7 +22,7 @@ pub fn read_curves<H: Shelf>(
     shelf: &mut H,
 ) -> Result<Curves, FileFault>
     requires few { length named.now ≤ 4 }
-    requires distinct { AllPairs (λ a b. ¬ IsSameName a.name b.name) named.now }
+    requires distinct { AllPairs (λ a b. ¬ IsSameCurveName a.name b.name) named.now }
     ensures read { IfOk result (λ curves.
         AreRead (H.told shelf.old) (H.told shelf.new) (curve_files named.now) (said_of_curves curves)) }
     ensures names { IfOk result (λ curves. map (λ one. one.name) curves ≡ names_of named.now) }

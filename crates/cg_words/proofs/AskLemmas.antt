@@ -1,6 +1,6 @@
 -- Lists ask for one request, and words for one thing.
 use Rattle.std.proofs.Common.{◌≡◌, ℕ, ◌≤◌, List, length, All, AllPairs, Option, Some, None, IfNone, Result, Ok, Err, IfOk, sym, ap, ◌∙◌, subst, arith}
-use Rattle.cg_curve.specs.Curves.{IsSameName}
+use Rattle.cg_curve.specs.Curves.{IsSameCurveName}
 use Rattle.cg_words.specs.Words.{Lists, Request, NamedFile, IsTurn, AreNamed, AreSessions, AreTurns, MayBe, AskFor, AskForOneThing, AreNoWords, AreLists, IsRequest}
 use Rattle.cg_words.specs.Reading.{HasNoLists, Nothing}
 use Rattle.cg_words.proofs.ListsLemmas.{one-lists}
@@ -31,7 +31,7 @@ one-request lists x y first second =
     let sessions = one-sessions lists.sessions x.sessions y.sessions first.sessions second.sessions in
     let turns : MayBe (AreTurns (length x.sessions)) lists.turns y.turns = subst (λ n. MayBe (AreTurns n) lists.turns y.turns) (sym (ap length sessions)) second.turns in
     same-requests x y
-    (one-or-none (AreNamed 4 IsSameName) (one-named 4 IsSameName) lists.curves x.curves y.curves first.curves second.curves)
+    (one-or-none (AreNamed 4 IsSameCurveName) (one-named 4 IsSameCurveName) lists.curves x.curves y.curves first.curves second.curves)
     (one-named 8 ◌≡◌ lists.models x.models y.models first.models second.models)
     sessions
     (one-or-none (AreTurns (length x.sessions)) (one-turns (length x.sessions)) lists.turns x.turns y.turns first.turns turns)
@@ -45,9 +45,9 @@ one-thing words x y first second =
 -- What curves keep to, left out or not.
 record KeptCurves (curves : List NamedFile) : Type 0 where
   few : length curves ≤ 4
-  distinct : AllPairs (λ a b. ¬ IsSameName a.name b.name) curves
+  distinct : AllPairs (λ a b. ¬ IsSameCurveName a.name b.name) curves
 
-kept-curves : (list : Option (List ℕ)) (curves : List NamedFile) → MayBe (AreNamed 4 IsSameName) list curves → KeptCurves curves
+kept-curves : (list : Option (List ℕ)) (curves : List NamedFile) → MayBe (AreNamed 4 IsSameCurveName) list curves → KeptCurves curves
 kept-curves None curves h = subst KeptCurves (sym h) (record { few = omega arith; distinct = λ i j d before within. absurd (omega arith) })
 kept-curves (Some list) curves h = record { few = h.few; distinct = h.distinct }
 

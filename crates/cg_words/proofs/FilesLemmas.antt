@@ -8,7 +8,7 @@ use Rattle.std.proofs.lemmas.List.{length-map, get_or-map}
 use Rattle.std.proofs.lemmas.List.Elements.{All-nil, All-cons, All-map, All-weaker}
 use Rattle.std.proofs.lemmas.List.Folds.{list_any_none, list_any_at}
 use Rattle.std.proofs.lemmas.List.Kept.{AllPairs-cons}
-use Rattle.cg_curve.specs.Curves.{IsSameName}
+use Rattle.cg_curve.specs.Curves.{IsSameCurveName}
 use Rattle.cg_words.specs.Words.{NamedFile, IsNamedFile, NamesNothing, IsFile, part_text, AreNamed, AreSessions}
 use Rattle.cg_words.specs.Reading.{parts_of, HasPart, SaysNamed, AreFiles, is_same_name, are_distinct}
 use Rattle.cg_text.proofs.StepLemmas.{and-both}
@@ -117,7 +117,7 @@ distinct-are is_same IsSame decides (one ∷ others) =
     told false h not_so = refl
 
 -- the test of equal names, ASCII case aside
-pub Decides-is_same_name : (a b : List ℕ) → Decides (is_same_name a b) (IsSameName a b)
+pub Decides-is_same_name : (a b : List ℕ) → Decides (is_same_name a b) (IsSameCurveName a b)
 Decides-is_same_name a b = bytes_eq-Decides (str_to_ascii_lowercase a) (str_to_ascii_lowercase b)
 
 -- the parts of a list of sessions are their files

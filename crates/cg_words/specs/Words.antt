@@ -3,7 +3,7 @@ use Rattle.std.specs.Prelude.{◌≡◌, ◌≢◌, ◌⊎◌, ℕ, ◌<◌, ◌
 use Rattle.std.specs.List.{Contains, join_with_byte}
 use Rattle.std.specs.Char.{is_ascii_digit}
 use Rattle.cg_num.specs.Decimal.{number_of}
-use Rattle.cg_curve.specs.Curves.{IsSameName}
+use Rattle.cg_curve.specs.Curves.{IsSameCurveName}
 use Rattle.cg_text.specs.Names.{IsName}
 
 -- a file that is known by a name: NAME=FILE
@@ -87,7 +87,7 @@ pub record Lists : Type 0 where
 
 -- The lists ask for this.
 pub record AskFor (lists : Lists) (request : Request) : Type 0 where
-  pub curves : MayBe (AreNamed 4 IsSameName) lists.curves request.curves
+  pub curves : MayBe (AreNamed 4 IsSameCurveName) lists.curves request.curves
   pub models : AreNamed 8 ◌≡◌ lists.models request.models
   pub sessions : AreSessions lists.sessions request.sessions
   pub turns : MayBe (AreTurns (length request.sessions)) lists.turns request.turns
@@ -141,7 +141,7 @@ AskForOneThing = (words : List (List ℕ)) (x y : Request) → AreWords words x 
 -- What every request keeps to.
 pub record IsRequest (request : Request) : Type 0 where
   pub few_curves : length request.curves ≤ 4
-  pub curve_names : AllPairs (λ a b. ¬ IsSameName a.name b.name) request.curves
+  pub curve_names : AllPairs (λ a b. ¬ IsSameCurveName a.name b.name) request.curves
   pub some_models : 0 < length request.models
   pub few_models : length request.models ≤ 8
   pub model_names : AllPairs (λ a b. a.name ≢ b.name) request.models

@@ -1,5 +1,5 @@
 ghost use Rattle.std.specs.Prelude.{◌≡◌, ◌≢◌, ◌<◌, ◌≤◌, length, map, All, AllPairs};
-ghost use Rattle.cg_curve.specs.Curves.{IsSameName};
+ghost use Rattle.cg_curve.specs.Curves.{IsSameCurveName};
 ghost use Rattle.cg_words.specs.Words.{IsFile, IsTurn, IsRequest};
 
 use crate::named::NamedFile;
@@ -40,7 +40,7 @@ impl<'a> Request<'a> {
     pub fn curves(&self) -> &[NamedFile<'a>]
         ensures curves { result.now ≡ self.now.curves }
         ensures few { length result.now ≤ 4 }
-        ensures distinct { AllPairs (λ a b. ¬ IsSameName a.name b.name) result.now }
+        ensures distinct { AllPairs (λ a b. ¬ IsSameCurveName a.name b.name) result.now }
     {
         self.curves.as_slice()
     }

@@ -1,5 +1,5 @@
 ghost use Rattle.std.specs.Prelude.{◌≡◌, IfSome, IfNone, IfOk, map, string_bytes, option_map};
-ghost use Rattle.cg_curve.specs.Curves.{IsSameName};
+ghost use Rattle.cg_curve.specs.Curves.{IsSameCurveName};
 ghost use Rattle.cg_words.specs.Words.{AreNamed, AreSessions, AreTurns, MayBe, AskFor, AreWords, AreNoWords};
 ghost use Rattle.cg_words.specs.Reading.{Nothing, lists_in};
 
@@ -20,8 +20,8 @@ const MAX_SESSIONS: usize = 8;
 const MAX_TURNS: usize = 10_000;
 
 fn curves_in<'a>(alloc: Global, list: &'a str) -> Result<Option<Vec<NamedFile<'a>>>, NoMemory>
-    ensures some { IfOk result (λ found. IfSome found (λ curves. AreNamed 4 IsSameName list.now curves.items)) }
-    ensures none { IfOk result (λ found. IfNone found (Nothing (AreNamed 4 IsSameName list.now))) }
+    ensures some { IfOk result (λ found. IfSome found (λ curves. AreNamed 4 IsSameCurveName list.now curves.items)) }
+    ensures none { IfOk result (λ found. IfNone found (Nothing (AreNamed 4 IsSameCurveName list.now))) }
 {
     let Some(curves) = named_files(alloc, list)? else {
         return Ok(None);
@@ -80,9 +80,9 @@ fn curves_or_none<'a>(
     list: Option<&'a str>,
 ) -> Result<Option<Vec<NamedFile<'a>>>, NoMemory>
     ensures some { IfOk result (λ found. IfSome found
-        (λ curves. MayBe (AreNamed 4 IsSameName) (option_map (λ text. text.now) list.entry) curves.items)) }
+        (λ curves. MayBe (AreNamed 4 IsSameCurveName) (option_map (λ text. text.now) list.entry) curves.items)) }
     ensures none { IfOk result (λ found. IfNone found
-        (Nothing (MayBe (AreNamed 4 IsSameName) (option_map (λ text. text.now) list.entry)))) }
+        (Nothing (MayBe (AreNamed 4 IsSameCurveName) (option_map (λ text. text.now) list.entry)))) }
 {
     match list {
         Some(list) => curves_in(alloc, list),
