@@ -10,8 +10,6 @@ mod misplaced;
 mod moved;
 mod named;
 mod parent;
-#[cfg(test)]
-mod tests;
 
 pub use change::apply;
 pub use edit::Edit;

@@ -1,8 +1,0 @@
-use Rattle.cg_meaning.specs.Tree.{Phase}
-use Rattle.cg_model.specs.Limits.{AreInPlace, AreInRange}
-use Rattle.cg_model.specs.Node.{trees_of}
-use Rattle.cg_edit.proofs.tests.dates.Given as goal
-
--- what a model asks of its statements
-abbrev pub invariant-loop : goal.invariant-loop
-invariant-loop l = record { placed : AreInPlace Phase (trees_of l.members); ranged : AreInRange (trees_of l.members) }
