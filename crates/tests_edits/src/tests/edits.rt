@@ -83,10 +83,16 @@ fn seen(alloc: Global, model: &ModelTree) -> Result<String, AllocError> {
     Ok(text)
 }
 
+fn applied(alloc: Global, model: &ModelTree, edit: &Edit) -> Result<ModelTree, EditFault>
+    requires { IsInOrder (edit_in edit.now) }
+{
+    apply(alloc, model, edit)
+}
+
 fn changed(alloc: Global, model: &ModelTree, edit: &Edit) -> Result<String, EditFault>
     requires { IsInOrder (edit_in edit.now) }
 {
-    let after = apply(alloc, model, edit)?;
+    let after = applied(alloc, model, edit)?;
     seen(alloc, &after).map_err(|_| EditFault::NoMemory)
 }
 
@@ -256,7 +262,7 @@ fn events_with(
     let text = repeated(alloc, "Phase(\"p\"){", "Date(\"x\");", events, "};")?;
     let model = model(alloc, text.as_str())?;
     let edit = addition(alloc, node, count)?;
-    match apply(alloc, &model, &edit) {
+    match applied(alloc, &model, &edit) {
         Ok(after) => Ok(Ok(after.events())),
         Err(fault) => Ok(Err(fault)),
     }
@@ -289,17 +295,27 @@ fn limits(rt: HostRuntime) -> Result<(), Fail> {
 fn dated(alloc: Global) -> Result<ModelTree, Fail> {
     let model = site(alloc)?;
     let edit = change(alloc, "set \"A\" C_Date(-51);")?;
-    Ok(apply(alloc, &model, &edit)?)
+    Ok(applied(alloc, &model, &edit)?)
 }
 
 #[test]
-fn parts(rt: HostRuntime) -> Result<(), Fail> {
-    all_else_stays();
-    changed_models_are_models();
-    let edit = change(rt.alloc(), "set \"A\" C_Date(-51);")?;
-    assert_eq!(rt; edit.target().text(), "A");
+fn curves(rt: HostRuntime) -> Result<(), Fail> {
     let after = dated(rt.alloc())?;
     let curve = after.curve().ok_or("no curve")?;
     assert_eq!(rt; curve.text(), "IntCal20.14c");
+    Ok(())
+}
+
+#[test]
+fn targets(rt: HostRuntime) -> Result<(), Fail> {
+    let edit = change(rt.alloc(), "set \"A\" C_Date(-51);")?;
+    assert_eq!(rt; edit.target().text(), "A");
+    Ok(())
+}
+
+#[test]
+fn laws(_rt: HostRuntime) -> Result<(), Fail> {
+    all_else_stays();
+    changed_models_are_models();
     Ok(())
 }

@@ -1,8 +1,5 @@
 //! Models, names and changes of texts.
-ghost use Rattle.std.specs.Prelude.{◌≡◌, ◌≢◌, [], IfOk, All};
-ghost use Rattle.cg_meaning.specs.Tree.{datings_of};
-ghost use Rattle.cg_model.specs.Limits.{IsInRange};
-ghost use Rattle.cg_model.specs.Node.{tree_of};
+ghost use Rattle.std.specs.Prelude.{◌≡◌, IfOk};
 ghost use Rattle.cg_sharing.specs.Journal.{IsInOrder};
 ghost use Rattle.cg_edit.specs.Plain.{edit_in};
 
