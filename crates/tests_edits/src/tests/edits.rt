@@ -252,6 +252,19 @@ fn addition(alloc: Global, node: &[&str; 4], count: u32) -> Result<Edit, Fail>
     change(alloc, line.as_str())
 }
 
+fn events_after(
+    alloc: Global,
+    model: &ModelTree,
+    node: &[&str; 4],
+    count: u32,
+) -> Result<Result<u32, EditFault>, Fail> {
+    let edit = addition(alloc, node, count)?;
+    match applied(alloc, model, &edit) {
+        Ok(after) => Ok(Ok(after.events())),
+        Err(fault) => Ok(Err(fault)),
+    }
+}
+
 // how many events there are once a node is added to a Phase of so many
 fn events_with(
     alloc: Global,
@@ -261,11 +274,7 @@ fn events_with(
 ) -> Result<Result<u32, EditFault>, Fail> {
     let text = repeated(alloc, "Phase(\"p\"){", "Date(\"x\");", events, "};")?;
     let model = model(alloc, text.as_str())?;
-    let edit = addition(alloc, node, count)?;
-    match applied(alloc, &model, &edit) {
-        Ok(after) => Ok(Ok(after.events())),
-        Err(fault) => Ok(Err(fault)),
-    }
+    events_after(alloc, &model, node, count)
 }
 
 static LIMITS: [(u32, [&str; 4], u32, Result<u32, EditFault>); 9] = [
@@ -291,16 +300,16 @@ fn limits(rt: HostRuntime) -> Result<(), Fail> {
     Ok(())
 }
 
-// the site once "A" has a date
-fn dated(alloc: Global) -> Result<ModelTree, Fail> {
-    let model = site(alloc)?;
+// a model once "A" has a date
+fn dated(alloc: Global, model: &ModelTree) -> Result<ModelTree, Fail> {
     let edit = change(alloc, "set \"A\" C_Date(-51);")?;
-    Ok(applied(alloc, &model, &edit)?)
+    Ok(applied(alloc, model, &edit)?)
 }
 
 #[test]
 fn curves(rt: HostRuntime) -> Result<(), Fail> {
-    let after = dated(rt.alloc())?;
+    let model = site(rt.alloc())?;
+    let after = dated(rt.alloc(), &model)?;
     let curve = after.curve().ok_or("no curve")?;
     assert_eq!(rt; curve.text(), "IntCal20.14c");
     Ok(())
