@@ -1,0 +1,3 @@
+//! Changes, and the texts that they and their models are read from.
+mod edits;
+mod texts;
