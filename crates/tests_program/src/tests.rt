@@ -5,9 +5,8 @@ mod refusals;
 mod sharing;
 mod status;
 
-use cg_run::Ended;
-use cg_run::run_alone;
 use cg_io::{MemShelf, MemSink};
+use cg_run::{Ended, run_alone};
 use std::test::Fail;
 
 /// Two events in order, which most of the cases run.

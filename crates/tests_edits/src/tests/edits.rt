@@ -4,7 +4,7 @@ ghost use Rattle.cg_sharing.specs.Journal.{IsInOrder};
 ghost use Rattle.cg_edit.specs.Plain.{edit_in};
 
 use crate::tests::texts::{change, model, name, repeated};
-use cg_edit::{Edit, EditFault, Kind, all_else_stays, apply, changed_models_are_models};
+use cg_edit::{Edit, EditFault, Kind, apply};
 use cg_model::{Dating, GroupKind, Limit, Members, ModelTree, Name, Node, View};
 use std::alloc::{AllocError, Global};
 use std::test::Fail;
@@ -319,12 +319,5 @@ fn curves(rt: HostRuntime) -> Result<(), Fail> {
 fn targets(rt: HostRuntime) -> Result<(), Fail> {
     let edit = change(rt.alloc(), "set \"A\" C_Date(-51);")?;
     assert_eq!(rt; edit.target().text(), "A");
-    Ok(())
-}
-
-#[test]
-fn laws(_rt: HostRuntime) -> Result<(), Fail> {
-    all_else_stays();
-    changed_models_are_models();
     Ok(())
 }

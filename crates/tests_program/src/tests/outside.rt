@@ -1,8 +1,7 @@
 use super::{TWO_EVENTS, WORDS, open_sink, run_words, shelf_of, words_of};
-use cg_run::Status;
-use cg_run::run_alone;
 use cg_files::{FileKind, FileRef};
 use cg_io::{MemShelf, MemSink, Shelf};
+use cg_run::{Status, run_alone};
 use std::test::Fail;
 
 const FILES: [(&str, &str); 2] = [("m", TWO_EVENTS), ("s", "open main\n")];

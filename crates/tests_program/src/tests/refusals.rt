@@ -1,9 +1,8 @@
 use super::{TWO_EVENTS, WORDS, open_sink, run_words};
-use cg_run::Status;
-use cg_run::run_alone;
 use cg_curve::CurveFault;
 use cg_files::{FileCause, FileKind, FileRef};
 use cg_io::MemShelf;
+use cg_run::{Status, run_alone};
 use std::alloc::Global;
 use std::fmt::Write;
 use std::test::Fail;
@@ -293,7 +292,9 @@ static UNWEIGHED: [(&str, &str, u32, &str); 5] = [
 #[test]
 fn unweighed_events(rt: HostRuntime) -> Result<(), Fail> {
     for (curves, model, older, cause) in &UNWEIGHED {
-        let script = format!(in rt.alloc(); "open main\ngrid {older} 2000\nprint \"Z\"\nprint \"R\"\n")?;
+        let script = format!(in rt.alloc();
+            "open main\ngrid {older} 2000\nprint \"Z\"\nprint \"R\"\n"
+        )?;
         let files = [
             ("c", "2002,2000,20\n2000,2000,20\n"),
             ("m", *model),
@@ -308,7 +309,11 @@ fn unweighed_events(rt: HostRuntime) -> Result<(), Fail> {
             "--curves",
             *curves,
         ];
-        let words = if curves.is_empty() { &all[..5] } else { &all[..] };
+        let words = if curves.is_empty() {
+            &all[..5]
+        } else {
+            &all[..]
+        };
         let mut sink = open_sink(&rt)?;
         let ended = run_words(&rt, words, files.as_slice(), &mut sink)?;
         let want = format!(in rt.alloc();

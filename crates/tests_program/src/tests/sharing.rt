@@ -85,7 +85,11 @@ fn turns(rt: HostRuntime) -> Result<(), Fail> {
             "--turns",
             *turns,
         ];
-        let words = if turns.is_empty() { &all[..5] } else { &all[..] };
+        let words = if turns.is_empty() {
+            &all[..5]
+        } else {
+            &all[..]
+        };
         let mut sink = open_sink(&rt)?;
         let ended = run_words(&rt, words, files.as_slice(), &mut sink)?;
         assert_eq!(rt; ended.status, Status::Done, "{turns}");

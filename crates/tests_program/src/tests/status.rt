@@ -1,6 +1,6 @@
-use cg_run::{Status, status_line};
 use cg_curve::CurveFault;
 use cg_files::{FileCause, FileKind, FileRef};
+use cg_run::{Status, status_line};
 use std::test::Fail;
 
 fn refused(kind: FileKind, number: u32, line: u32, cause: FileCause) -> Status {
