@@ -1,4 +1,4 @@
-use Rattle.std.proofs.Common.{◌∙◌, ap, subst, sym, true≢false}
+use Rattle.std.proofs.Common.{◌∙◌, ap, refl, subst, sym, true≢false}
 use Rattle.std.specs.List.{All}
 use Rattle.std.proofs.lemmas.List.Elements.{All-append}
 use Rattle.cg_meaning.specs.Tree.{Sequence, Phase, After, Before, datings_of, datings_of_all}
@@ -24,7 +24,7 @@ pub node_of-returns-in_ok-members_of-in-Sequence : goal.node_of-returns-in_ok-me
 node_of-returns-in_ok-members_of-in-Sequence t c =
     let members = c.in_ok-members_of-in-Sequence.ensures in
     record {
-      placed = λ kind holds. rw tree_of-Sequence (members.placed Sequence (λ _. tt));
+      placed = λ kind holds. rw tree_of-Sequence (members.placed Sequence (λ _. refl));
       ranged = rw tree_of-Sequence members.ranged;
       covered = λ scene. rw tree_of-Sequence (members.covered scene);
     }
