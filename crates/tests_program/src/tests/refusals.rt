@@ -309,11 +309,8 @@ fn unweighed_events(rt: HostRuntime) -> Result<(), Fail> {
             "--curves",
             *curves,
         ];
-        let words = if curves.is_empty() {
-            &all[..5]
-        } else {
-            &all[..]
-        };
+        let count = if curves.is_empty() { 5 } else { 7 };
+        let words = all.get(..count).ok_or("too few words")?;
         let mut sink = open_sink(&rt)?;
         let ended = run_words(&rt, words, files.as_slice(), &mut sink)?;
         let want = format!(in rt.alloc();

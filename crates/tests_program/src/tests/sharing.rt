@@ -85,11 +85,8 @@ fn turns(rt: HostRuntime) -> Result<(), Fail> {
             "--turns",
             *turns,
         ];
-        let words = if turns.is_empty() {
-            &all[..5]
-        } else {
-            &all[..]
-        };
+        let count = if turns.is_empty() { 5 } else { 7 };
+        let words = all.get(..count).ok_or("too few words")?;
         let mut sink = open_sink(&rt)?;
         let ended = run_words(&rt, words, files.as_slice(), &mut sink)?;
         assert_eq!(rt; ended.status, Status::Done, "{turns}");
