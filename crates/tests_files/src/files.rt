@@ -28,9 +28,9 @@ static FILES: [(&str, &str); 15] = [
     ("redo", "redo\n"),
 ];
 
-fn shelf_of(alloc: Global) -> Result<MemShelf, Fail> {
+fn shelf_of(alloc: Global, files: &[(&str, &str)]) -> Result<MemShelf, Fail> {
     let mut shelf = MemShelf::new(alloc);
-    for (name, text) in &FILES {
+    for (name, text) in files {
         shelf.put(name, text.as_bytes())?;
     }
     Ok(shelf)
@@ -61,7 +61,7 @@ fn events_of(alloc: Global, versions: &Versions, name: &str) -> Result<Option<u3
 
 #[test]
 fn accepted(rt: HostRuntime) -> Result<(), Fail> {
-    let mut shelf = shelf_of(rt.alloc())?;
+    let mut shelf = shelf_of(rt.alloc(), FILES.as_slice())?;
     let Ok(inputs) = read(rt.alloc(), GOOD, &mut shelf)? else {
         return Err(Fail::from("a fault"));
     };
@@ -215,7 +215,7 @@ static FAULTS: [(&str, FileKind, u32, Option<(u32, FileCause)>); 20] = [
 
 #[test]
 fn first_fault(rt: HostRuntime) -> Result<(), Fail> {
-    let mut shelf = shelf_of(rt.alloc())?;
+    let mut shelf = shelf_of(rt.alloc(), FILES.as_slice())?;
     for (line, kind, number, refusal) in &FAULTS {
         let fault = read(rt.alloc(), line, &mut shelf)?.err();
         assert_eq!(rt; fault, Some(fault_of(*kind, *number, *refusal)), "{line}");
@@ -267,7 +267,7 @@ static SIZES: [(&str, &str, FileKind, FileCause); 6] = [
 
 #[test]
 fn long_files(rt: HostRuntime) -> Result<(), Fail> {
-    let mut shelf = shelf_of(rt.alloc())?;
+    let mut shelf = shelf_of(rt.alloc(), FILES.as_slice())?;
     let whole = repeated(rt.alloc(), REMARK, 65_536)?;
     for (line, more, kind, cause) in &SIZES {
         let long = format!(in rt.alloc(); "{whole}{more}")?;
@@ -295,7 +295,7 @@ static ORDER: [(FileKind, u32); 6] = [
 #[test]
 fn failed_reads(rt: HostRuntime) -> Result<(), Fail> {
     for (place, (kind, number)) in ORDER.iter().enumerate() {
-        let mut shelf = shelf_of(rt.alloc())?;
+        let mut shelf = shelf_of(rt.alloc(), FILES.as_slice())?;
         shelf.fail_on(place as u64 + 1)?;
         let fault = read(rt.alloc(), GOOD, &mut shelf)?.err();
         assert_eq!(rt; fault, Some(fault_of(*kind, *number, None)));
