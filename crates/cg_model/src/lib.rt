@@ -13,8 +13,6 @@ mod model;
 mod name;
 mod node;
 mod place;
-#[cfg(test)]
-mod tests;
 mod view;
 
 pub use dating::Dating;

@@ -4,7 +4,7 @@ use Rattle.cg_model.specs.Limits.{IsInRange}
 use Rattle.cg_model.specs.Node.{trees_of}
 use Rattle.cg_model.proofs.NodeLemmas.{tree_of-After}
 use Rattle.cg_model.proofs.PushLemmas.{AreInPlace-trees_with, AreInRange-trees_with}
-use Rattle.cg_model.proofs.tests.with_groups.Goals as goal
+use Rattle.tests_chronology.proofs.tests.limits.with_groups.Goals as goal
 
 pub loop-preserved : goal.loop-preserved
 loop-preserved c = record {

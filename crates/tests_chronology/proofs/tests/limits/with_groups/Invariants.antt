@@ -1,7 +1,7 @@
 use Rattle.cg_meaning.specs.Tree.{Phase}
 use Rattle.cg_model.specs.Limits.{AreInPlace, AreInRange}
 use Rattle.cg_model.specs.Node.{trees_of}
-use Rattle.cg_model.proofs.tests.with_leaves.Given as goal
+use Rattle.tests_chronology.proofs.tests.limits.with_groups.Given as goal
 
 -- what a model asks of its top statements
 abbrev pub invariant-loop : goal.invariant-loop

@@ -1,7 +1,7 @@
 use Rattle.cg_meaning.specs.Tree.{Phase}
 use Rattle.cg_model.specs.Node.{trees_of}
 use Rattle.cg_model.proofs.PushLemmas.{AreInPlace-trees_with, AreInRange-trees_with, IsInPlace-Leaf, IsInRange-Leaf}
-use Rattle.cg_model.proofs.tests.with_leaves.Goals as goal
+use Rattle.tests_chronology.proofs.tests.limits.with_leaves.Goals as goal
 
 pub loop-preserved : goal.loop-preserved
 loop-preserved c = record {

@@ -3,7 +3,7 @@ use Rattle.std.proofs.lemmas.List.{append-nil}
 use Rattle.std.proofs.lemmas.List.Elements.{All-nil, All-cons}
 use Rattle.cg_model.specs.Limits.{IsInRange}
 use Rattle.cg_model.proofs.NodeLemmas.{tree_of-Leaf, tree_of-Phase}
-use Rattle.cg_model.proofs.tests.leaf_at.Goals as goal
+use Rattle.tests_chronology.proofs.tests.limits.leaf_at.Goals as goal
 
 pub loop-init : goal.loop-init
 loop-init c = record {

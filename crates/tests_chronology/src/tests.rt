@@ -1,0 +1,5 @@
+//! One file for each subject.
+mod grids;
+mod limits;
+mod names;
+mod site;
