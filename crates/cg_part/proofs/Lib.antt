@@ -8,10 +8,13 @@ pub mod Beside
 pub mod Groups
 pub mod CellPairs
 pub mod PairsRead
+pub mod Items
 pub mod Open
 pub mod Splits
 pub mod Members
 pub mod Steps
+pub mod Rows
 pub mod Table
 pub mod Totals
+pub mod HasEvents
 pub mod WorkedCases

@@ -5,7 +5,7 @@ use Rattle.std.proofs.lemmas.Bool.{lt-leb}
 use Rattle.cg_meaning.specs.Tree.{Tree, Trees, Leaf, Boundary, Group, none, more, Kind, Sequence, Step, Dating, count, count_all, paths_of, paths_of_all}
 use Rattle.cg_meaning.specs.Scene.{Scene, admits}
 use Rattle.cg_part.specs.Part.{reaches}
-use Rattle.cg_part.specs.Tables.{ExactTable, sum_from, cumulated, row_table, then_table, then_row}
+use Rattle.cg_part.specs.Tables.{ExactTable, sum_from, cumulated, row_table, then_table}
 use Rattle.cg_part.proofs.Ranges.{sum_below-range, sum_from-same, sum_from-nest, sum_from-scale_right}
 use Rattle.cg_part.proofs.Cumulated.{entry}
 use Rattle.cg_part.proofs.Blocks.{step, and_false}
@@ -67,9 +67,9 @@ pub has_parts : (scene : Scene) (t : ExactTable) (weight : List ℕ → ℕ) (ps
 has_parts scene t weight ps ds b same c d h l =
     entry (λ e. t c e) (λ e. at scene weight ps ds c e) c d h (λ e m k. same c e m (omega arith) ∙ sym (at-sum scene weight ps ds c e))
 
--- an event after a table, as a table after it
-pub then_row_is : (s : ExactTable) (row : ℕ → ℕ) (a b : ℕ) → then_row s row a b ≡ then_table s (row_table row) a b
-then_row_is s row a b = sym (sum_from-scale_right a b (row b) (λ c. s a c))
+-- an event after a table
+pub then_event : (s : ExactTable) (row : ℕ → ℕ) (a b : ℕ) → cumulated s a b * row b ≡ then_table s (row_table row) a b
+then_event s row a b = sym (sum_from-scale_right a b (row b) (λ c. s a c))
 
 -- A member onto the earlier ones, before the later ones. The weight of the later ones may depend on what it reaches.
 pub then_member : (scene : Scene) (k a b : ℕ) (s t : ExactTable) (ps qs : List (List Step)) (ds es : List Dating) (whole : ℕ → List ℕ →

@@ -10,7 +10,8 @@ use Rattle.cg_meaning.specs.Weights.{Weighting}
 use Rattle.cg_meaning.specs.Sums.{product_from}
 use Rattle.cg_meaning.specs.Pairs.{pair_of, span_weight}
 use Rattle.cg_part.proofs.CellPairs.{boundary_at, pairs_at, pairs_at_all, pairs_at_sequence}
-use Rattle.cg_part.specs.Spans.{has_boundary, open_events}
+use Rattle.cg_part.specs.Elements.{element_of, open_events}
+use Rattle.cg_part.proofs.Items.{has_boundary}
 use Rattle.cg_part.proofs.Open.{spans, spans-append, spans-open}
 
 -- the weight of a node's own events, which are numbered from here
@@ -104,18 +105,19 @@ gathered p o a r b =
 pub segment-split : (scene : Scene) (w : Weighting) (n opened c : ℕ) (t : Tree) (ts : Trees) (xs ys : List ℕ) → is_boundary t ≡ false →
     length xs ≡ count t →
     segment_weight scene w n opened c (more t ts) (xs ++ ys)
-    ≡ node_weight scene w n t xs * segment_weight scene w (n + count t) (opened + open_events t) c ts ys
+    ≡ node_weight scene w n t xs * segment_weight scene w (n + count t) (opened + open_events (element_of n t)) c ts ys
 segment-split scene w n opened c t ts xs ys m l =
     let g = scene.grid.cells in
     let pair = pair_of (Some c) (boundary_at ts ys) None in
     let f = span_weight g pair in
     let rest = ordered_weight scene w (n + count t) (Some c) ts ys in
+    let own = open_events (element_of n t) in
     ap₂ (λ ps next. product_from n w (xs ++ ys) * spans g ps * closing scene opened c next) (member_pairs (Some c) t ts xs ys m l)
     (next_boundary t ts xs ys m l)
     ∙ ap (λ x. x * f ^ opened) (two_blocks scene w n (count t) xs ys (pairs_at pair t xs) (pairs_at_sequence None (Some c) ts ys) l)
-    ∙ ap (λ x. product_from n w xs * x * rest * f ^ opened) (spans-open g pair t xs l)
-    ∙ gathered (product_from n w xs) (spans g (pairs_at None t xs)) (f ^ open_events t) rest (f ^ opened)
-    ∙ ap (λ x. node_weight scene w n t xs * (rest * x)) (sym (pow-add f opened (open_events t)))
+    ∙ ap (λ x. product_from n w xs * x * rest * f ^ opened) (spans-open g pair n t xs l)
+    ∙ gathered (product_from n w xs) (spans g (pairs_at None t xs)) (f ^ own) rest (f ^ opened)
+    ∙ ap (λ x. node_weight scene w n t xs * (rest * x)) (sym (pow-add f opened own))
 
 -- A Boundary, and the members behind it.
 pub boundary-split : (scene : Scene) (w : Weighting) (n : ℕ) (before : Option ℕ) (name : List ℕ) (ts : Trees) (x : ℕ) (ys : List ℕ) →

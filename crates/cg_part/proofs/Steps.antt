@@ -2,8 +2,7 @@
 use Rattle.std.proofs.Common.{◌≡◌, ℕ, ◌<◌, ◌≤◌, ◌+◌, ◌*◌, ◌^◌, Bool, true, false, cond, ◌&&◌, max, leb, leb-true, List, [], ◌∷◌, ◌++◌, length, refl, sym, ap, ◌∙◌, arith, Option, Some, None}
 use Rattle.std.specs.List.{zip}
 use Rattle.std.proofs.Math.Nat.{mul_assoc, mul_comm, pow-zero}
-use Rattle.std.proofs.lemmas.Bool.{false≢true}
-use Rattle.cg_meaning.specs.Tree.{Tree, Trees, Leaf, Boundary, Group, none, more, Sequence, Phase, Dating, Free, Name, count, datings_of, datings_of_all, paths_of, paths_of_all}
+use Rattle.cg_meaning.specs.Tree.{Tree, Trees, Leaf, Boundary, more, Sequence, Phase, Dating, Free, Name, count, datings_of, datings_of_all, paths_of, paths_of_all}
 use Rattle.cg_meaning.specs.Scene.{Scene, admits}
 use Rattle.cg_meaning.specs.Weights.{Weighting}
 use Rattle.cg_meaning.specs.Sums.{product_from}
@@ -11,12 +10,13 @@ use Rattle.cg_meaning.specs.Pairs.{span_weight}
 use Rattle.cg_part.proofs.CellPairs.{first}
 use Rattle.cg_meaning.proofs.Counts.{length-datings_of}
 use Rattle.cg_part.specs.Part.{reaches}
-use Rattle.cg_part.specs.Spans.{has_boundary, open_events}
-use Rattle.cg_part.specs.Tables.{ExactTable, sum_from, cumulated, identity, row_table, row_of, then_table, then_row, in_order, behind, span_item}
+use Rattle.cg_part.specs.Elements.{element_of, items_of, items_behind, open_events}
+use Rattle.cg_part.specs.Tables.{ExactTable, sum_from, cumulated, identity, row_table, row_of, then_table, in_order, span_item}
 use Rattle.cg_part.proofs.Ranges.{sum_from-same, sum_from-identity}
 use Rattle.cg_part.proofs.Blocks.{and_true}
 use Rattle.cg_part.proofs.Parts.{starts, up_to, up_to-same}
-use Rattle.cg_part.proofs.Members.{length-paths_of, lead, part_leaf, has_parts, then_row_is, then_member}
+use Rattle.cg_part.proofs.Members.{length-paths_of, lead, part_leaf, has_parts, then_event, then_member}
+use Rattle.cg_part.proofs.Items.{has_boundary, items-last, behind, behind-identity}
 use Rattle.cg_part.proofs.Splits.{node_weight, beside_weight, ordered_weight, closing, segment_weight, is_boundary, ordered-split, segment-split, last-weight}
 
 -- the datings of a tree's own events
@@ -63,12 +63,12 @@ ordered_member scene w s table t ts k n a b member within same =
 pub segment_member : (scene : Scene) (w : Weighting) (s table : ExactTable) (t : Tree) (ts : Trees) (k n opened c b : ℕ) → is_boundary t ≡ false →
     b < scene.grid.cells →
     IsTable scene w n t table b →
-    sum_from c b (λ e. then_table s table c e * segment_parts scene w (n + count t) (opened + open_events t) c (k + 1) ts e b)
+    sum_from c b (λ e. then_table s table c e * segment_parts scene w (n + count t) (opened + open_events (element_of n t)) c (k + 1) ts e b)
     ≡ sum_from c b (λ e. s c e * segment_parts scene w n opened c k (more t ts) e b)
 segment_member scene w s table t ts k n opened c b member within same =
     then_member scene k c b s table (paths_of t) (paths_of_all Sequence (k + 1) ts) (datings_of t) (datings_of_all ts)
     (λ e cells. segment_weight scene w n opened c (more t ts) cells) (λ cells. node_weight scene w n t cells)
-    (λ e cells. segment_weight scene w (n + count t) (opened + open_events t) c ts cells)
+    (λ e cells. segment_weight scene w (n + count t) (opened + open_events (element_of n t)) c ts cells)
     (paired t) (lead Sequence k (k + 1) ts (omega arith)) within
     (has_parts scene table (λ cells. node_weight scene w n t cells) (paths_of t) (datings_of t) b same)
     (λ e xs ys l m starts. segment-split scene w n opened c t ts xs ys member (l ∙ length-paths_of t))
@@ -81,18 +81,12 @@ event_table scene row weight d a b within same =
     sum_from-same a b row (λ c. cond (admits scene.grid d c) (weight (c ∷ [])) 0) (λ c h l. same c) ∙ sym (part_leaf scene weight d a b within)
 
 -- that of a leaf, or of a Boundary
-pub leaf_table : (scene : Scene) (w : Weighting) (name : Name) (d : Dating) (n a b : ℕ) → b < scene.grid.cells →
-    cumulated (row_table (row_of scene w n d)) a b ≡ own scene w n (Leaf name d) a b
-leaf_table scene w name d n a b within =
-    event_table scene (row_of scene w n d) (λ cells. node_weight scene w n (Leaf name d) cells) d a b within
-    (λ c. ap (λ x. cond (admits scene.grid d c) x 0) (omega arith))
-
--- an event of a Sequence onto the earlier members
-pub event_after : (s : ExactTable) (row rest : ℕ → ℕ) (a b : ℕ) →
-    sum_from a b (λ c. then_row s row a c * rest c) ≡ sum_from a b (λ c. then_table s (row_table row) a c * rest c)
-event_after s row rest a b =
-    sum_from-same a b (λ c. then_row s row a c * rest c) (λ c. then_table s (row_table row) a c * rest c)
-    (λ c h l. ap (λ x. x * rest c) (then_row_is s row a c))
+pub leaf_table : (scene : Scene) (w : Weighting) (row : ℕ → ℕ) (name : Name) (d : Dating) (n a b : ℕ) → b < scene.grid.cells →
+    ((c : ℕ) → row c ≡ row_of scene w n d c) →
+    cumulated (row_table row) a b ≡ own scene w n (Leaf name d) a b
+leaf_table scene w row name d n a b within same =
+    event_table scene row (λ cells. node_weight scene w n (Leaf name d) cells) d a b within
+    (λ c. same c ∙ ap (λ x. cond (admits scene.grid d c) x 0) (omega arith))
 
 -- a Boundary reaches its own cell
 boundary_reach : (c x : ℕ) → (leb c x && true) ≡ true → max c x ≡ x
@@ -113,33 +107,25 @@ pub boundary_member : (scene : Scene) (w : Weighting) (s : ExactTable) (row : �
     (whole first : List ℕ → ℕ) (k n a b : ℕ) → b < scene.grid.cells →
     ((c : ℕ) → row c ≡ first (c ∷ [])) →
     ((x : ℕ) (ys : List ℕ) → whole (x ∷ ys) ≡ first (x ∷ []) * ordered_weight scene w (n + 1) (Some x) ts ys) →
-    sum_from a b (λ c. then_row s row a c * ordered_parts scene w (n + 1) (Some c) (k + 1) ts c b)
+    sum_from a b (λ c. then_table s (row_table row) a c * ordered_parts scene w (n + 1) (Some c) (k + 1) ts c b)
     ≡ sum_from a b (λ c. s a c * up_to scene whole (paths_of_all Sequence k (more (Boundary name) ts)) (datings_of_all (more (Boundary name) ts)) c b)
 boundary_member scene w s row name ts whole first k n a b within same split =
-    event_after s row (λ c. ordered_parts scene w (n + 1) (Some c) (k + 1) ts c b) a b
-    ∙ then_member scene k a b s (row_table row) ([] ∷ []) (paths_of_all Sequence (k + 1) ts) (Free ∷ []) (datings_of_all ts)
+    then_member scene k a b s (row_table row) ([] ∷ []) (paths_of_all Sequence (k + 1) ts) (Free ∷ []) (datings_of_all ts)
     (λ c. whole) first (λ c cells. ordered_weight scene w (n + 1) (Some c) ts cells) refl (lead Sequence k (k + 1) ts (omega arith)) within
     (has_parts scene (row_table row) first ([] ∷ []) (Free ∷ []) b
     (λ c d i j. event_table scene row first Free c d (omega arith) same))
     (λ c xs ys l m h. behind_weight scene w n ts whole first c xs ys l (λ x. split x ys) h)
 
--- where no Boundary follows, the members are items
-behind_last : (scene : Scene) (w : Weighting) (s : ExactTable) (ts : Trees) (n a b : ℕ) → has_boundary ts ≡ false →
-    cumulated (behind scene w n s identity 0 ts) a b ≡ cumulated (in_order scene w n s ts) a b
-behind_last scene w s none n a b h = refl
-behind_last scene w s (more (Leaf name d) ts) n a b h = rw h refl
-behind_last scene w s (more (Boundary name) ts) n a b h = absurd (false≢true (sym h))
-behind_last scene w s (more (Group kind name us) ts) n a b h = rw h refl
-
--- The members behind a Boundary, onto what reaches it, by whether another one follows.
-pub behind_sums : (scene : Scene) (w : Weighting) (s : ExactTable) (ts : Trees) (k n a b : ℕ) (more_boundaries : Bool) →
+-- The items behind a Boundary, onto what reaches it, by whether another one follows.
+pub behind_sums : (scene : Scene) (w : Weighting) (rows : ℕ → ℕ → ℕ) (s : ExactTable) (ts : Trees) (k n a b : ℕ) (more_boundaries : Bool) →
     has_boundary ts ≡ more_boundaries →
-    (has_boundary ts ≡ true → cumulated (behind scene w n s identity 0 ts) a b
+    (has_boundary ts ≡ true → cumulated (behind scene.grid.cells rows s identity 0 (items_behind n ts)) a b
     ≡ sum_from a b (λ c. s a c * sum_from c b (λ e. identity c e * segment_parts scene w n 0 c k ts e b))) →
-    cumulated (in_order scene w n s ts) a b ≡ sum_from a b (λ c. s a c * ordered_parts scene w n None k ts c b) →
-    cumulated (behind scene w n s identity 0 ts) a b ≡ sum_from a b (λ c. s a c * ordered_parts scene w n (Some c) k ts c b)
-behind_sums scene w s ts k n a b true h segment ordered =
-    segment h
+    cumulated (in_order scene.grid.cells rows s (items_of n ts)) a b ≡ sum_from a b (λ c. s a c * ordered_parts scene w n None k ts c b) →
+    cumulated (in_order scene.grid.cells rows s (items_behind n ts)) a b ≡ sum_from a b (λ c. s a c * ordered_parts scene w n (Some c) k ts c b)
+behind_sums scene w rows s ts k n a b true h segment ordered =
+    ap (λ t. cumulated t a b) (sym (behind-identity scene.grid.cells rows s (items_behind n ts)))
+    ∙ segment h
     ∙ sum_from-same a b (λ c. s a c * sum_from c b (λ e. identity c e * segment_parts scene w n 0 c k ts e b))
     (λ c. s a c * ordered_parts scene w n (Some c) k ts c b)
     (λ c i j. ap (λ x. s a c * x)
@@ -147,8 +133,9 @@ behind_sums scene w s ts k n a b true h segment ordered =
     ∙ up_to-same scene (λ cells. segment_weight scene w n 0 c ts cells) (λ cells. ordered_weight scene w n (Some c) ts cells)
     (paths_of_all Sequence k ts) (datings_of_all ts) c b
     (λ cells l. ap (λ x. ordered_weight scene w n (Some c) ts cells * x) (pow-zero _) ∙ omega arith)))
-behind_sums scene w s ts k n a b false h segment ordered =
-    behind_last scene w s ts n a b h ∙ ordered
+behind_sums scene w rows s ts k n a b false h segment ordered =
+    ap (λ es. cumulated (in_order scene.grid.cells rows s es) a b) (items-last n ts h)
+    ∙ ordered
     ∙ sum_from-same a b (λ c. s a c * ordered_parts scene w n None k ts c b) (λ c. s a c * ordered_parts scene w n (Some c) k ts c b)
     (λ c i j. ap (λ x. s a c * x)
     (up_to-same scene (λ cells. ordered_weight scene w n None ts cells) (λ cells. ordered_weight scene w n (Some c) ts cells)
@@ -160,10 +147,11 @@ abbrev pub closing_weight : Scene → Weighting → ℕ → ℕ → ℕ → List
 closing_weight scene w n opened c cells = product_from n w cells * closing scene opened c (first cells)
 
 -- A span item is the segment, and then its Boundary with the weight of the span.
-pub span_after : (scene : Scene) (w : Weighting) (segment : ExactTable) (n opened c d : ℕ) →
-    span_item scene.grid.cells segment opened (row_of scene w n Free) c d
-    ≡ then_row segment (λ x. closing_weight scene w n opened c (x ∷ [])) c d
-span_after scene w segment n opened c d =
+pub span_after : (scene : Scene) (w : Weighting) (row : ℕ → ℕ) (segment : ExactTable) (n opened c d : ℕ) → row d ≡ w n d →
+    span_item scene.grid.cells segment opened row c d
+    ≡ then_table segment (row_table (λ x. closing_weight scene w n opened c (x ∷ []))) c d
+span_after scene w row segment n opened c d same =
     let f = span_weight scene.grid.cells (Some (c, d)) ^ opened in
     let m = cumulated segment c d in
-    mul_assoc m f (w n d) ∙ ap (λ x. m * x) (mul_comm f (w n d) ∙ ap (λ x. x * f) (omega arith))
+    mul_assoc m f (row d) ∙ ap (λ x. m * (f * x)) same ∙ ap (λ x. m * x) (mul_comm f (w n d) ∙ ap (λ x. x * f) (omega arith))
+    ∙ then_event segment (λ x. closing_weight scene w n opened c (x ∷ [])) c d

@@ -1,4 +1,4 @@
-pub mod Spans
+pub mod Elements
 pub mod Part
 pub mod Tables
 pub mod Laws

@@ -1,11 +1,12 @@
--- The table of a node, in exact whole numbers: an entry for each two cells a ≤ b, from its members' tables. chron's own.
-use Rattle.std.specs.Prelude.{ℕ, suc, ◌+◌, ◌-◌, ◌*◌, ◌^◌, Some, ◌==◌, cond, nat_le, if◌then◌else◌}
-use Rattle.cg_meaning.specs.Tree.{Tree, Leaf, Boundary, Group, Trees, none, more, Sequence, Phase, After, Before, Dating, Free, count}
+-- The table of an element, in exact whole numbers: an entry for each two cells a ≤ b, from those of its own elements. chron's
+-- own.
+use Rattle.std.specs.Prelude.{ℕ, suc, ◌+◌, ◌-◌, ◌*◌, ◌^◌, Some, ◌==◌, cond, nat_le, slice_index_or, if◌then◌else◌}
+use Rattle.cg_meaning.specs.Tree.{Tree, Sequence, Phase, After, Before, Dating, Free, datings_of}
 use Rattle.cg_meaning.specs.Scene.{Scene, admits}
 use Rattle.cg_meaning.specs.Weights.{Weighting}
 use Rattle.cg_meaning.specs.Pairs.{span_weight}
 use Rattle.cg_meaning.specs.Sums.{sum_below}
-use Rattle.cg_part.specs.Spans.{has_boundary, open_events}
+use Rattle.cg_part.specs.Elements.{Element, Event, Group, Span, Elements, none, more, open_in}
 
 -- the entries, for a ≤ b below the number of cells; what stands elsewhere does not count
 abbrev pub ExactTable : Type 0
@@ -30,10 +31,6 @@ row_table row a b = row b
 -- one after the other
 abbrev pub then_table : ExactTable → ExactTable → ExactTable
 then_table s t a b = sum_from a b (λ c. s a c * t c b)
-
--- an event after what a table has
-abbrev pub then_row : ExactTable → (ℕ → ℕ) → ExactTable
-then_row s row a b = sum_from a b (λ c. s a c) * row b
 
 -- side by side: one of both reaches b, the other no further
 abbrev pub beside : ExactTable → ExactTable → ExactTable
@@ -61,49 +58,29 @@ span_item grid_cells t opened row a b = spanned grid_cells t opened a b * row b
 abbrev pub row_of : Scene → Weighting → ℕ → Dating → ℕ → ℕ
 row_of scene weighting event dating cell = cond (admits scene.grid dating cell) (weighting event cell) 0
 
--- The table of a node, whose events are numbered from `number`.
+-- the row of each event of a tree, by its number
+abbrev pub rows_of : Scene → Weighting → Tree → ℕ → ℕ → ℕ
+rows_of scene weighting tree event = row_of scene weighting event (slice_index_or (datings_of tree) event Free)
+
+-- The table of an element on a grid of so many cells, by the rows of its events.
 abbrev mutual
-  pub table_of : Scene → Weighting → ℕ → Tree → ExactTable
-  table_of scene weighting number (Leaf name dating) = row_table (row_of scene weighting number dating)
-  table_of scene weighting number (Boundary name) = row_table (row_of scene weighting number Free)
-  table_of scene weighting number (Group Sequence name ts) = in_order scene weighting number identity ts
-  table_of scene weighting number (Group Phase name ts) = side_by_side scene weighting number identity ts
-  table_of scene weighting number (Group After name ts) = after_group (side_by_side scene weighting number identity ts)
-  table_of scene weighting number (Group Before name ts) = before_group scene.grid.cells (side_by_side scene weighting number identity ts)
+  pub table_of : ℕ → (ℕ → ℕ → ℕ) → Element → ExactTable
+  table_of grid_cells rows (Event number) = row_table (rows number)
+  table_of grid_cells rows (Group Sequence es) = in_order grid_cells rows identity es
+  table_of grid_cells rows (Group Phase es) = side_by_side grid_cells rows identity es
+  table_of grid_cells rows (Group After es) = after_group (side_by_side grid_cells rows identity es)
+  table_of grid_cells rows (Group Before es) = before_group grid_cells (side_by_side grid_cells rows identity es)
+  table_of grid_cells rows (Span es closing) = span_item grid_cells (in_order grid_cells rows identity es) (open_in es) (rows closing)
 
-  -- The members of a Sequence, one by one, onto the table of what precedes them: those up to the first Boundary, and
-  -- those behind the last.
-  pub in_order : Scene → Weighting → ℕ → ExactTable → Trees → ExactTable
-  in_order scene weighting number before none = before
-  in_order scene weighting number before (more (Leaf name dating) ts) =
-      in_order scene weighting (number + 1) (then_row before (row_of scene weighting number dating)) ts
-  in_order scene weighting number before (more (Boundary name) ts) =
-      behind scene weighting (number + 1) (then_row before (row_of scene weighting number Free)) identity 0 ts
-  in_order scene weighting number before (more (Group kind name us) ts) =
-      in_order scene weighting (number + count (Group kind name us)) (then_table before (table_of scene weighting number (Group kind name us))) ts
+  -- elements one after another, onto the table of what precedes them
+  pub in_order : ℕ → (ℕ → ℕ → ℕ) → ExactTable → Elements → ExactTable
+  in_order grid_cells rows before none = before
+  in_order grid_cells rows before (more e es) = in_order grid_cells rows (then_table before (table_of grid_cells rows e)) es
 
-  -- The members behind a Boundary. Where another one comes, those up to it are a segment: its own table from nothing,
-  -- and how many of its events are open. With that Boundary it is one item.
-  pub behind : Scene → Weighting → ℕ → ExactTable → ExactTable → ℕ → Trees → ExactTable
-  behind scene weighting number before segment opened none = before
-  behind scene weighting number before segment opened (more (Leaf name dating) ts) =
-      if has_boundary ts
-      then behind scene weighting (number + 1) before (then_row segment (row_of scene weighting number dating)) (opened + 1) ts
-      else in_order scene weighting (number + 1) (then_row before (row_of scene weighting number dating)) ts
-  behind scene weighting number before segment opened (more (Boundary name) ts) =
-      behind scene weighting (number + 1) (then_table before (span_item scene.grid.cells segment opened (row_of scene weighting number Free))) identity 0 ts
-  behind scene weighting number before segment opened (more (Group kind name us) ts) =
-      if has_boundary ts
-      then behind scene weighting (number + count (Group kind name us)) before
-      (then_table segment (table_of scene weighting number (Group kind name us))) (opened + open_events (Group kind name us)) ts
-      else in_order scene weighting (number + count (Group kind name us))
-      (then_table before (table_of scene weighting number (Group kind name us))) ts
-
-  -- the members of a Phase, one by one, beside the table of the earlier ones
-  pub side_by_side : Scene → Weighting → ℕ → ExactTable → Trees → ExactTable
-  side_by_side scene weighting number others none = others
-  side_by_side scene weighting number others (more t ts) =
-      side_by_side scene weighting (number + count t) (beside others (table_of scene weighting number t)) ts
+  -- elements beside each other, and beside the table of the earlier ones
+  pub side_by_side : ℕ → (ℕ → ℕ → ℕ) → ExactTable → Elements → ExactTable
+  side_by_side grid_cells rows others none = others
+  side_by_side grid_cells rows others (more e es) = side_by_side grid_cells rows (beside others (table_of grid_cells rows e)) es
 
 -- the sum of all that begins at the oldest cell
 abbrev pub table_total : ℕ → ExactTable → ℕ

@@ -1,6 +1,11 @@
-ghost use Rattle.cg_part.specs.Laws.{PartSumsAreTables, TotalsAreByTables, PinnedTotals, PinsAreLocal, OpenEventsCarryThePair, ClosedSpans, SpansAreExact};
+ghost use Rattle.cg_part.specs.Laws.{ElementsHaveTheEvents, PartSumsAreTables, TotalsAreByTables, PinnedTotals, OpenEventsCarryThePair, ClosedSpans, SpansAreExact};
 
-/// The law that the table of a node, by the formulas, holds the node's part sums. Does nothing.
+/// The law that the element of a node has the node's events, by their numbers, and no other. Does nothing.
+pub fn elements_have_the_events()
+    ensures { ElementsHaveTheEvents }
+{}
+
+/// The law that the table of a node's element, by the formulas, holds the node's part sums. Does nothing.
 pub fn part_sum_is_table()
     ensures { PartSumsAreTables }
 {}
@@ -10,16 +15,10 @@ pub fn total_is_by_tables()
     ensures { TotalsAreByTables }
 {}
 
-/// The law that the total of a model's table, with an event's weights 0 but at one cell, is the sum over the allowed
-/// datings with the event there. Does nothing.
+/// The law that the total of a model's table, with an event's row held at one cell, is the sum over the allowed datings
+/// with the event there. Does nothing.
 pub fn pinned_total_is_by_tables()
     ensures { PinnedTotals }
-{}
-
-/// The law that such weights change the event's own row, or the span that it closes, and the tables above it alone. Does
-/// nothing.
-pub fn pins_are_local()
-    ensures { PinsAreLocal }
 {}
 
 /// The law that a Boundary pair gives the weight of its span to just the open events of a node between the two. Does
