@@ -3,7 +3,7 @@ use Rattle.std.proofs.Common.{◌≡◌, ℕ, zero, suc, ◌+◌, ◌-◌, ◌*�
 use Rattle.std.proofs.Math.Nat.{mul-pos, pow-zero, pow-suc}
 use Rattle.std.specs.List.{range_with_len}
 use Rattle.std.proofs.lemmas.List.FromFn.{map-range_with_len_more, get_or-map-range_with_len, length-map-range_with_len}
-use Rattle.std.proofs.lemmas.Bool.{cases_eq, eq-eqb, ne_eqb}
+use Rattle.std.proofs.lemmas.Bool.{cases_eq, cases_lt, eq-eqb, ne_eqb, lt-ltb, le-ltb}
 use Rattle.cg_enc.specs.Enclosure.{Enclosure, Encloses, IsExponent}
 use Rattle.cg_enc.specs.Rounding.{of_whole, times, over}
 use Rattle.cg_enc.proofs.Products.{times-IsProduct}
@@ -12,6 +12,7 @@ use Rattle.cg_enc.proofs.Sums.{encloses-scaled}
 use Rattle.cg_enc.proofs.WholeNumbers.{zero-encloses, of_whole_encloses}
 use Rattle.cg_table.specs.Sums.{sum_of, total_of}
 use Rattle.cg_table.specs.Formulas.{identity_entry, cumulated, then_row_entry, then_entry, beside_entry, after_entry, before_entry, span_power, spanned_entry}
+use Rattle.cg_table.specs.Live.{identity_rows_entry}
 use Rattle.cg_table.specs.Exact.{exact_identity, exact_cumulated, exact_then_row, exact_then, exact_beside, exact_after, exact_before, exact_spanned}
 use Rattle.cg_table.proofs.ReachLemmas.{IsExponent-more}
 use Rattle.cg_table.proofs.SumLemmas.{sum_of-encloses, plus_encloses}
@@ -37,6 +38,13 @@ identity-encloses a b =
     elim (cases_eq a b) [
       | inl e ↦ rw (eq-eqb a b e) (of_whole_encloses 1 (lit< tt))
       | inr n ↦ rw (ne_eqb a b n) (zero-encloses 0 1 refl)
+    ]
+
+pub identity_rows-within : (live a b : ℕ) → IsWithin (identity_rows_entry live a b) 0 66
+identity_rows-within live a b =
+    elim (cases_lt a live) [
+      | inl less ↦ rw (lt-ltb a live less) (identity-within a b)
+      | inr le ↦ rw (le-ltb a live le) (zero-within 0 66)
     ]
 
 -- n entries of a row

@@ -1,5 +1,5 @@
 -- A row of sums of products of two tables, as it grows by one term of each sum at a time.
-use Rattle.std.proofs.Common.{◌≡◌, ℕ, suc, ◌+◌, ◌-◌, ◌*◌, ◌++◌, ◌^◌, ◌<◌, ◌≤◌, [], ◌∷◌, min, List, length, take, drop, replicate, get_or, ap, ap₂, sym, ◌∙◌, inl, inr, arith, refl}
+use Rattle.std.proofs.Common.{◌≡◌, ℕ, suc, ◌+◌, ◌-◌, ◌*◌, ◌++◌, ◌^◌, ◌<◌, ◌≤◌, [], ◌∷◌, zero, min, List, length, take, drop, replicate, get_or, ap, ap₂, sym, ◌∙◌, inl, inr, arith, refl}
 use Rattle.std.specs.List.{All}
 use Rattle.std.proofs.lemmas.Bool.{cases_eq, cases_lt}
 use Rattle.std.proofs.lemmas.List.{ext_get_or, get_or-take, get_or-drop, get_or_append_left, get_or-append-add, length-append, append_assoc, replicate-append-replicate}
@@ -8,13 +8,16 @@ use Rattle.std.proofs.lemmas.List.Elements.{All-take, All-drop}
 use Rattle.std.proofs.lemmas.List.FromFn.{get_or-map-range_with_len, length-map-range_with_len}
 use Rattle.cg_enc.specs.Enclosure.{Enclosure, exact_zero, IsEnclosure, IsExponent, IsZero}
 use Rattle.cg_enc.specs.Rounding.{plus, times}
-use Rattle.cg_enc.proofs.Products.{times-zero_left}
+use Rattle.cg_enc.proofs.Products.{times-zero_left, times-zero_right}
 use Rattle.cg_enc.proofs.Sums.{plus-zero_left, plus-zero_right}
 use Rattle.cg_table.specs.Formulas.{then_entry}
+use Rattle.cg_table.specs.Live.{live_rows, padded}
 use Rattle.cg_table.specs.Sums.{sum_of}
 use Rattle.cg_table.specs.Table.{Table, IsTable, entry, row, start, table_loss, table_reach}
-use Rattle.cg_table.proofs.ReachLemmas.{IsExponent-more, greatest_reach-IsExponent}
-use Rattle.cg_table.proofs.WithinLemmas.{entry-within, times-within, sum-within}
+use Rattle.cg_table.proofs.LiveLemmas.{exactly_zero, dead-zero, entry-padded, kept-near}
+use Rattle.cg_table.proofs.PlaceLemmas.{place_below, start_next, start_rises}
+use Rattle.cg_table.proofs.ReachLemmas.{IsExponent-more}
+use Rattle.cg_table.proofs.WithinLemmas.{IsWithin, entry-within, times-within, sum-within}
 
 -- the product for b = a + i and c
 abbrev pub term : Table → Table → ℕ → ℕ → ℕ → Enclosure
@@ -65,18 +68,19 @@ joined-more p t a c base first old new le less f r = record {
 plus-nothing : (s e : Enclosure) → IsEnclosure s → e ≡ exact_zero → plus s e ≡ s
 plus-nothing s e v is =
     elim (cases_eq s.hi 0) [
-      | inl z ↦ plus-zero_left s e z ∙ is ∙ sym (no_more s z v)
+      | inl z ↦ plus-zero_left s e z ∙ is ∙ sym (exactly_zero s v z)
       | inr n ↦ plus-zero_right s e (omega arith) (ap (λ (x : Enclosure). x.hi) is)
     ]
-  where
-    no_more : (s : Enclosure) → s.hi ≡ 0 → IsEnclosure s → s ≡ exact_zero
-    no_more s z v =
-        let low : s.lo ≡ 0 = omega (arith, v.ordered, z) in
-        rw (low, z, v.zero_exp z) refl
+
+-- what a sum of so many products is within
+sum-of_terms-within : (p t : Table) (a i n : ℕ) → IsTable p → IsTable t → IsWithin (sum_of (term p t a i) a n) (table_loss p + table_loss t + 3 + 3 * n) (table_reach p * 2 ^ 31 + table_reach t * 2 ^ 31 + 63 + n)
+sum-of_terms-within p t a i n vp vt =
+    sum-within (term p t a i) (table_loss p + table_loss t + 3) (table_reach p * 2 ^ 31 + table_reach t * 2 ^ 31 + 63) a n
+    (λ k short. times-within (entry p a (a + k)) (entry t (a + k) (a + i)) (table_loss p) (table_reach p * 2 ^ 31) (table_loss t) (table_reach t * 2 ^ 31) (entry-within p a (a + k) vp) (entry-within t (a + k) (a + i) vt))
 
 -- where the factor is zero, the sums have their next term already
 pub joined-passed : (p t : Table) (a c base : ℕ) (first sums : List Enclosure) → a ≤ c → c < p.cells → IsTable p → IsTable t → IsZero (entry p a c) → AreJoined p t a c base first sums → AreJoined p t a (c + 1) base first sums
-joined-passed p t a c base first sums le less vp vt zero f = record {
+joined-passed p t a c base first sums le less vp vt none f = record {
   width = f.width;
   before = f.before;
   each = λ i within. elim (cases_lt i (c - a)) [
@@ -85,36 +89,59 @@ joined-passed p t a c base first sums le less vp vt zero f = record {
         let here : a + (c - a) ≡ c = omega arith in
         let was : min (i + 1) (c - a) ≡ c - a = omega arith in
         let is : min (i + 1) (c + 1 - a) ≡ suc (c - a) = omega arith in
-        let nothing : term p t a i (a + (c - a)) ≡ exact_zero = rw here (times-zero_left (entry p a c) (entry t c (a + i)) zero) in
-        let valid = (sum-within (term p t a i) (table_loss p + table_loss t + 3) (table_reach p * 2 ^ 31 + table_reach t * 2 ^ 31 + 63) a (c - a)
-        (λ k short. times-within (entry p a (a + k)) (entry t (a + k) (a + i)) (table_loss p) (table_reach p * 2 ^ 31) (table_loss t) (table_reach t * 2 ^ 31) (entry-within p a (a + k) vp) (entry-within t (a + k) (a + i) vt))).valid in
-        rw is (f.each i within ∙ ap (sum_of (term p t a i) a) was ∙ sym (plus-nothing (sum_of (term p t a i) a (c - a)) (term p t a i (a + (c - a))) valid nothing))
+        let nothing : term p t a i (a + (c - a)) ≡ exact_zero = rw here (times-zero_left (entry p a c) (entry t c (a + i)) none) in
+        rw is (f.each i within ∙ ap (sum_of (term p t a i) a) was ∙ sym (plus-nothing (sum_of (term p t a i) a (c - a)) (term p t a i (a + (c - a))) (sum-of_terms-within p t a i (c - a) vp vt).valid nothing))
   ];
 }
 
--- all sums are done
-pub joined-all : (p t : Table) (a c base i : ℕ) (old sums : List Enclosure) → p.cells ≤ c → i < p.cells - a → AreJoined p t a c base old sums → get_or sums (base + i) exact_zero ≡ then_entry (entry p) (entry t) a (a + i)
-joined-all p t a c base i old sums past within f =
-    let all : min (i + 1) (c - a) ≡ a + i - a + 1 = omega arith in
-    f.each i within ∙ ap (sum_of (term p t a i) a) all
+-- all sums are done where the rows from c on have zeros alone
+pub joined-all : (p t : Table) (a c base i : ℕ) (old sums : List Enclosure) → IsTable p → IsTable t → p.cells ≡ t.cells → live_rows t ≤ c → a ≤ c → i < p.cells - a → AreJoined p t a c base old sums →
+    get_or sums (base + i) exact_zero ≡ then_entry (entry p) (entry t) a (a + i)
+joined-all p t a c base i old sums vp vt same dead le within f =
+    let all : min (i + 1) (c - a) + (i + 1 - min (i + 1) (c - a)) ≡ a + i - a + 1 = omega arith in
+    f.each i within ∙ sym (rest (i + 1 - min (i + 1) (c - a)) (omega arith)) ∙ ap (sum_of (term p t a i) a) all
+  where
+    rest : (k : ℕ) → min (i + 1) (c - a) + k ≤ i + 1 → sum_of (term p t a i) a (min (i + 1) (c - a) + k) ≡ sum_of (term p t a i) a (min (i + 1) (c - a))
+    rest zero few = ap (sum_of (term p t a i) a) (omega arith)
+    rest (suc k) few =
+        let n : ℕ = min (i + 1) (c - a) + k in
+        let next : min (i + 1) (c - a) + suc k ≡ suc n = omega arith in
+        let zero_entry : entry t (a + n) (a + i) ≡ exact_zero = dead-zero t (a + n) (a + i) vt (omega (arith, dead, few)) (omega (arith, few)) (omega (arith, within, same)) in
+        let nothing : term p t a i (a + n) ≡ exact_zero = times-zero_right (entry p a (a + n)) (entry t (a + n) (a + i)) (ap (λ (e : Enclosure). e.hi) zero_entry) in
+        rw next (plus-nothing (sum_of (term p t a i) a n) (term p t a i (a + n)) (sum-of_terms-within p t a i n vp vt).valid nothing ∙ rest k (omega arith))
 
 -- a sum may be added to
 pub joined-near : (p t : Table) (a c base i : ℕ) (old sums : List Enclosure) → IsTable p → IsTable t → table_reach p + table_reach t < 2 ^ 20 → i < p.cells - a → AreJoined p t a c base old sums →
     IsExponent (2 ^ 55) (get_or sums (base + i) exact_zero).exp
 joined-near p t a c base i old sums vp vt reach within f =
     rw (f.each i within) (IsExponent-more (sum_of (term p t a i) a (min (i + 1) (c - a))).exp (table_reach p * 2 ^ 31 + table_reach t * 2 ^ 31 + 63 + min (i + 1) (c - a)) (2 ^ 55) (omega (arith, vp.few))
-    (sum-within (term p t a i) (table_loss p + table_loss t + 3) (table_reach p * 2 ^ 31 + table_reach t * 2 ^ 31 + 63) a (min (i + 1) (c - a))
-    (λ k short. times-within (entry p a (a + k)) (entry t (a + k) (a + i)) (table_loss p) (table_reach p * 2 ^ 31) (table_loss t) (table_reach t * 2 ^ 31) (entry-within p a (a + k) vp) (entry-within t (a + k) (a + i) vt))).near)
+    (sum-of_terms-within p t a i (min (i + 1) (c - a)) vp vt).near)
 
 -- the entries of a row that is lent as a slice, and their exponents
-pub lent : (t : Table) (items : List Enclosure) (c k begin w : ℕ) → items ≡ t.entries → begin ≡ start t.cells c → k < w → get_or (take w (drop begin items)) k exact_zero ≡ entry t c (c + k)
-lent t items c k begin w all at less =
-    let e : c + k - c ≡ k = omega arith in
-    get_or-take w (drop begin items) k exact_zero less ∙ get_or-drop begin items k exact_zero ∙ rw (all, at, e) refl
+pub lent : (t : Table) (cells : ℕ) (items : List Enclosure) (c k begin w : ℕ) → padded cells items ≡ t → begin ≡ start cells c → k < w → get_or (take w (drop begin items)) k exact_zero ≡ entry t c (c + k)
+lent t cells items c k begin w view at less =
+    let place : begin + k ≡ start cells c + (c + k - c) = omega arith in
+    get_or-take w (drop begin items) k exact_zero less ∙ get_or-drop begin items k exact_zero ∙ ap (λ (j : ℕ). get_or items j exact_zero) place
+    ∙ sym (entry-padded cells items c (c + k)) ∙ ap (λ (u : Table). entry u c (c + k)) view
 
-pub lent-near : (t : Table) (items : List Enclosure) (begin w r : ℕ) → items ≡ t.entries → table_reach t + r < 2 ^ 20 → All (λ e. IsExponent (2 ^ 52) e.exp) (take w (drop begin items))
-lent-near t items begin w r all reach = rw all (All-take (λ e. IsExponent (2 ^ 52) e.exp) w (drop begin t.entries) (All-drop (λ e. IsExponent (2 ^ 52) e.exp) begin t.entries
-    (λ k d less. IsExponent-more (get_or t.entries k d).exp (table_reach t * 2 ^ 31) (2 ^ 52) (omega arith) (greatest_reach-IsExponent t.entries k d less))))
+pub lent-near : (t : Table) (cells : ℕ) (items : List Enclosure) (begin w r : ℕ) → padded cells items ≡ t → table_reach t + r < 2 ^ 20 → All (λ e. IsExponent (2 ^ 52) e.exp) (take w (drop begin items))
+lent-near t cells items begin w r view reach = All-take (λ e. IsExponent (2 ^ 52) e.exp) w (drop begin items) (All-drop (λ e. IsExponent (2 ^ 52) e.exp) begin items (kept-near t cells (2 ^ 52) items view (omega arith)))
+
+-- the entry that is the factor, and the row that it multiplies, are among those that are kept
+pub factor-inside : (p : Table) (cells a c own n : ℕ) → cells ≡ p.cells → a < live_rows p → a ≤ c → c < p.cells → own ≡ start cells a → n ≡ start p.cells (live_rows p) → own + (c - a) < n
+factor-inside p cells a c own n same row le less at long = omega (arith, long, rw same at at, place_below p.cells a c (live_rows p) le less row)
+
+pub row-inside : (t : Table) (cells c begin n : ℕ) → cells ≡ t.cells → c < live_rows t → begin ≡ start t.cells (min c (live_rows t)) → n ≡ start t.cells (live_rows t) → begin + (cells - c) ≤ n
+row-inside t cells c begin n same less at long =
+    let here : min c (live_rows t) ≡ c = omega arith in
+    omega (arith, long, rw here at at, start_next t.cells c, start_rises t.cells (c + 1) (live_rows t) (omega arith))
+
+-- where the next row begins
+pub row-next : (t : Table) (cells c begin : ℕ) → cells ≡ t.cells → c < live_rows t → begin ≡ start t.cells (min c (live_rows t)) → begin + (cells - c) ≡ start t.cells (min (c + 1) (live_rows t))
+row-next t cells c begin same less at =
+    let here : min c (live_rows t) ≡ c = omega arith in
+    let there : min (c + 1) (live_rows t) ≡ c + 1 = omega arith in
+    rw there (omega (arith, rw here at at, start_next t.cells c))
 
 -- the row behind what stood before
 pub joined-row : (p t : Table) (a : ℕ) (front zeros new : List Enclosure) → length zeros ≡ p.cells - a → length new ≡ length (front ++ zeros) →

@@ -3,6 +3,8 @@ pub mod ReachLemmas
 pub mod SumLemmas
 pub mod PlaceLemmas
 pub mod WithinLemmas
+pub mod LiveLemmas
+pub mod DeadLemmas
 pub mod TableLemmas
 pub mod FormulaLemmas
 pub mod JoinLemmas

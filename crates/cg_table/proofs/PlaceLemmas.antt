@@ -97,7 +97,3 @@ ticks_row s s' s0 cells a less e h =
   where
     ticks_triangle : (s s' s0 m : ℕ) → 2 * s' ≤ 2 * s + (m + 1) * (m + 1 + 1) → 6 * s + (m + 1) * (m + 1 + 1) * (m + 1 + 2) ≤ s0 → 6 * s' + m * (m + 1) * (m + 2) ≤ s0
     ticks_triangle s s' s0 m e h = omega (arith, e, h)
-
--- a row ends within the table
-pub row_ends : (cells c : ℕ) → c < cells → start cells c + (cells - c) ≤ start cells cells
-row_ends cells c less = omega (arith, start_next cells c, start_rises cells (c + 1) cells (omega arith))

@@ -1,5 +1,5 @@
 -- How much the results of sums, products and quotients lose, and how far their exponents reach.
-use Rattle.std.proofs.Common.{◌≡◌, ℕ, zero, suc, ◌+◌, ◌-◌, ◌*◌, ◌^◌, ◌<◌, ◌≤◌, List, length, get_or, pos, ◌+ℤ◌, inl, inr, arith, sym, subst, ap, ◌∙◌, [], ◌∷◌, refl}
+use Rattle.std.proofs.Common.{◌≡◌, ℕ, suc, ◌+◌, ◌-◌, ◌*◌, ◌^◌, ◌<◌, ◌≤◌, List, length, pos, ◌+ℤ◌, inl, inr, arith, sym, subst, ap, ◌∙◌}
 use Rattle.std.specs.List.{All}
 use Rattle.std.specs.Prelude.{slice_index_or}
 use Rattle.std.proofs.lemmas.Bool.{cases_lt, cases_eq}
@@ -144,12 +144,3 @@ entry_sum-near s t a b n sum e r vs vt reach few is is' product =
     rw (product, is, is') (IsExponent-more (times (entry s a b) (sum_of (entry t a) a n)).exp (table_reach s * 2 ^ 31 + (table_reach t * 2 ^ 31 + n) + 63) (2 ^ 60) (omega (arith, vt.few))
     (times-within (entry s a b) (sum_of (entry t a) a n) (table_loss s) (table_reach s * 2 ^ 31) (table_loss t + 3 * n) (table_reach t * 2 ^ 31 + n)
     (entry-within s a b vs) (sum-within (entry t a) (table_loss t) (table_reach t * 2 ^ 31) a n (λ i less. entry-within t a (a + i) vt))).near)
-
-same_default : (xs : List Enclosure) (i : ℕ) (d d' : Enclosure) → i < length xs → get_or xs i d ≡ get_or xs i d'
-same_default [] i d d' h = absurd (omega arith)
-same_default (x ∷ xs) zero d d' h = refl
-same_default (x ∷ xs) (suc i) d d' h = same_default xs i d d' (omega arith)
-
--- an element that was read is the entry of its place
-pub read_entry : (t : Table) (xs : List Enclosure) (a b i : ℕ) (x : Enclosure) → xs ≡ t.entries → i < length xs → i ≡ place t.cells a b → x ≡ get_or xs i x → x ≡ entry t a b
-read_entry t xs a b i x whole inside e h = h ∙ same_default xs i x exact_zero inside ∙ rw (whole, e) refl

@@ -3,4 +3,5 @@ pub mod Losses
 pub mod Row
 pub mod Table
 pub mod Formulas
+pub mod Live
 pub mod Exact

@@ -1,7 +1,9 @@
 //! Tables of groups that bound events on one side only.
 ghost use Rattle.std.specs.Prelude.{◌≡◌, ◌+◌, ◌++◌, ◌^◌, ◌<◌, ◌≤◌, ℕ, IfOk, OnOk};
+ghost use Rattle.cg_enc.specs.Enclosure.{exact_zero};
 ghost use Rattle.cg_table.specs.Exact.{exact_after, exact_before};
 ghost use Rattle.cg_table.specs.Formulas.{after_entry, after_of, before_entry, before_of};
+ghost use Rattle.cg_table.specs.Live.{live_rows};
 ghost use Rattle.cg_table.specs.Table.{IsTable, EnclosesTable, entry, row, table_loss, table_reach};
 
 use crate::single::summed;
@@ -26,12 +28,25 @@ fn filled_after(t: &Tri) -> Result<Tri, NoMemory>
     ensures value { IfOk result (λ r. r ≡ after_of t.now) }
     ensures operand { IsTable t.now }
 {
-    let cells = t.cells();
+    let (cells, rows) = (t.cells(), rows_after(t));
     let mut entries = Vec::new(t.allocator());
-    for a in 0..cells {
+    for a in 0..rows {
         push_after(&mut entries, t, a)?;
     }
-    Ok(Tri::of_entries(cells, entries))
+    Ok(Tri::of_rows(cells, rows, entries))
+}
+
+// How many rows of an After group's table are walked: all, or none where each entry of `t` is zero.
+fn rows_after(t: &Tri) -> usize
+    ensures none { live_rows t.now ≡ 0 → result ≡ 0 }
+    ensures within { result ≤ t.now.cells }
+    ensures dead { (a b : ℕ) → result ≤ a → a ≤ b → b < t.now.cells →
+        after_entry (entry t.now) a b ≡ exact_zero }
+{
+    if t.live() == 0 {
+        return 0;
+    }
+    t.cells()
 }
 
 fn push_after(entries: &mut Vec<Enc>, t: &Tri, a: usize) -> Result<(), NoMemory>
@@ -77,12 +92,12 @@ fn filled_before(t: &Tri) -> Result<Tri, NoMemory>
     ensures value { IfOk result (λ r. r ≡ before_of t.now) }
     ensures operand { IsTable t.now }
 {
-    let cells = t.cells();
+    let (cells, live) = (t.cells(), t.live());
     let mut entries = Vec::new(t.allocator());
-    for a in 0..cells {
+    for a in 0..live {
         push_before(&mut entries, t, a)?;
     }
-    Ok(Tri::of_entries(cells, entries))
+    Ok(Tri::of_rows(cells, live, entries))
 }
 
 fn push_before(entries: &mut Vec<Enc>, t: &Tri, a: usize) -> Result<(), NoMemory>

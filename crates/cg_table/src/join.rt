@@ -4,15 +4,17 @@ ghost use Rattle.std.specs.Prelude.{◌≡◌, ◌+◌, ◌-◌, ◌*◌, ◌++�
 ghost use Rattle.cg_enc.specs.Enclosure.{exact_zero, IsExponent};
 ghost use Rattle.cg_enc.specs.Rounding.{plus, times};
 ghost use Rattle.cg_table.specs.Formulas.{then_entry};
+ghost use Rattle.cg_table.specs.Live.{live_rows};
 ghost use Rattle.cg_table.specs.Table.{entry, table_reach};
 
 use crate::steps::Steps;
-use crate::tri::{Tri, place_of};
+use crate::tri::{Tri, start_of};
 use cg_enc::Enc;
 use cg_num::NoMemory;
 use std::sync::ledger::Ledger;
 
-pub(crate) fn push_zeros(entries: &mut Vec<Enc>, count: usize) -> Result<(), NoMemory>
+/// Puts `count` zeros behind the entries.
+pub fn push_zeros(entries: &mut Vec<Enc>, count: usize) -> Result<(), NoMemory>
     ensures { OnOk result (entries.new.items ≡ entries.old.items ++ replicate count exact_zero) }
 {
     for _ in 0..count {
@@ -30,7 +32,7 @@ pub(crate) fn join_row<L: Ledger>(
     a: usize,
     steps: &mut Steps<L>,
 )
-    requires row { a < p.now.cells }
+    requires row { a < live_rows p.now }
     requires cells { p.now.cells ≡ t.now.cells }
     requires reach { table_reach p.now + table_reach t.now < 2 ^ 20 }
     requires width { length sums.old ≡ base + (p.now.cells - a) }
@@ -44,9 +46,9 @@ pub(crate) fn join_row<L: Ledger>(
 {
     let (left, right) = (p.items(), t.items());
     let cells = p.cells();
-    let own = place_of(cells, a, a, left.len());
-    let mut begin = place_of(cells, a, a, right.len());
-    for c in a..t.cells() {
+    let own = start_of(cells, a, left.len());
+    let mut begin = start_of(cells, a.min(t.live()), right.len());
+    for c in a..t.live() {
         let factor = left[own + (c - a)];
         if !factor.is_zero() {
             add_row(
@@ -61,9 +63,9 @@ pub(crate) fn join_row<L: Ledger>(
     }
 }
 
-// Adds, from the sum at `from` on, the products of a factor and the entries of a row.
+/// Adds, from the sum at `from` on, the products of a factor and the entries of a row.
 #[inline]
-fn add_row<L: Ledger>(
+pub fn add_row<L: Ledger>(
     factor: &Enc,
     row: &[Enc],
     sums: &mut [Enc],
@@ -83,6 +85,8 @@ fn add_row<L: Ledger>(
 {
     for k in 0..row.len() {
         steps.tick();
-        sums[from + k] = sums[from + k].plus(&factor.times(&row[k]));
+        let sum = sums[from + k];
+        let product = factor.times(&row[k]);
+        sums[from + k] = sum.plus(&product);
     }
 }

@@ -2,6 +2,7 @@
 ghost use Rattle.std.specs.Prelude.{◌≡◌, ◌+◌, ◌-◌, ◌*◌, ◌++◌, ◌^◌, ◌<◌, ◌≤◌, ℕ, IfOk, OnOk, length};
 ghost use Rattle.cg_table.specs.Exact.{exact_then, exact_then_row};
 ghost use Rattle.cg_table.specs.Formulas.{then_entry, then_of, then_row_entry, then_row_of};
+ghost use Rattle.cg_table.specs.Live.{live_rows};
 ghost use Rattle.cg_table.specs.Losses.{greatest_loss, greatest_reach};
 ghost use Rattle.cg_table.specs.Row.{AreEntries};
 ghost use Rattle.cg_table.specs.Table.{IsTable, EnclosesRow, EnclosesTable, entry, row, row_entry};
@@ -16,7 +17,7 @@ use cg_num::NoMemory;
 use std::sync::ledger::Ledger;
 
 /// The table of an event after what a table has: at `(a, b)` what begins at `a` and reaches `b` at the latest, times the
-/// event's weight at `b`.
+/// event's weight at `b`. It takes a product for each entry of the live rows.
 pub fn then_row<L: Ledger>(p: &Tri, w: &Row, steps: &mut Steps<L>) -> Result<Tri, NoMemory>
     requires cells { p.now.cells ≡ length w.now }
     requires reach { table_reach p.now + greatest_reach w.now < 2 ^ 20 }
@@ -28,7 +29,8 @@ pub fn then_row<L: Ledger>(p: &Tri, w: &Row, steps: &mut Steps<L>) -> Result<Tri
         IfOk result (λ t. table_loss t ≤ table_loss p.now + greatest_loss w.now + 2 ^ 13) }
     ensures reach { p.now.cells ≤ 512 →
         IfOk result (λ t. table_reach t ≤ table_reach p.now + greatest_reach w.now + 1) }
-    ensures ticks { OnOk result (2 * steps.new ≡ 2 * steps.old + p.now.cells * (p.now.cells + 1)) }
+    ensures ticks { OnOk result (steps.new ≡ steps.old + start p.now.cells (live_rows p.now)) }
+    ensures few { steps.new ≤ steps.old + start p.now.cells (live_rows p.now) }
     ensures at_most { 2 * steps.new ≤ 2 * steps.old + p.now.cells * (p.now.cells + 1) }
 {
     filled_then_row(p, w, steps)
@@ -39,15 +41,15 @@ fn filled_then_row<L: Ledger>(p: &Tri, w: &Row, steps: &mut Steps<L>) -> Result<
     requires reach { table_reach p.now + greatest_reach w.now < 2 ^ 20 }
     ensures value { IfOk result (λ t. t ≡ then_row_of p.now w.now) }
     ensures operands { IsTable p.now × AreEntries w.now }
-    ensures ticks { OnOk result (steps.new ≡ steps.old + start p.now.cells p.now.cells) }
-    ensures at_most { steps.new ≤ steps.old + start p.now.cells p.now.cells }
+    ensures ticks { OnOk result (steps.new ≡ steps.old + start p.now.cells (live_rows p.now)) }
+    ensures few { steps.new ≤ steps.old + start p.now.cells (live_rows p.now) }
 {
-    let cells = p.cells();
+    let (cells, live) = (w.len(), p.live());
     let mut entries = Vec::new(p.allocator());
-    for a in 0..w.len() {
+    for a in 0..live {
         push_then_row(&mut entries, p, w, a, steps)?;
     }
-    Ok(Tri::of_entries(cells, entries))
+    Ok(Tri::of_rows(cells, live, entries))
 }
 
 fn push_then_row<L: Ledger>(
@@ -99,12 +101,12 @@ fn filled_then<L: Ledger>(p: &Tri, t: &Tri, steps: &mut Steps<L>) -> Result<Tri,
     ensures operands { IsTable p.now × IsTable t.now }
     ensures ticks { 6 * steps.new ≤ 6 * steps.old + p.now.cells * (p.now.cells + 1) * (p.now.cells + 2) }
 {
-    let cells = p.cells();
+    let (cells, live) = (t.cells(), p.live());
     let mut entries = Vec::new(p.allocator());
-    for a in 0..t.cells() {
+    for a in 0..live {
         push_then(&mut entries, p, t, a, steps)?;
     }
-    Ok(Tri::of_entries(cells, entries))
+    Ok(Tri::of_rows(cells, live, entries))
 }
 
 fn push_then<L: Ledger>(
@@ -114,7 +116,7 @@ fn push_then<L: Ledger>(
     a: usize,
     steps: &mut Steps<L>,
 ) -> Result<(), NoMemory>
-    requires row { a < p.now.cells }
+    requires row { a < live_rows p.now }
     requires cells { p.now.cells ≡ t.now.cells }
     requires reach { table_reach p.now + table_reach t.now < 2 ^ 20 }
     ensures row { OnOk result (entries.new.items ≡ entries.old.items

@@ -1,7 +1,8 @@
 //! Tables of events side by side.
-ghost use Rattle.std.specs.Prelude.{◌≡◌, ◌+◌, ◌-◌, ◌*◌, ◌++◌, ◌^◌, ◌<◌, ◌≤◌, ℕ, IfOk, OnOk};
+ghost use Rattle.std.specs.Prelude.{◌≡◌, ◌+◌, ◌-◌, ◌*◌, ◌++◌, ◌^◌, ◌<◌, ◌≤◌, ℕ, min, IfOk, OnOk};
 ghost use Rattle.cg_table.specs.Exact.{exact_beside};
 ghost use Rattle.cg_table.specs.Formulas.{beside_entry, beside_of};
+ghost use Rattle.cg_table.specs.Live.{live_rows};
 ghost use Rattle.cg_table.specs.Table.{IsTable, EnclosesTable, entry, row};
 ghost use Rattle.cg_table.specs.Table.{start, table_loss, table_reach};
 
@@ -13,6 +14,8 @@ use std::sync::ledger::Ledger;
 
 /// The table of what two tables have, neither before the other: one of both reaches `b` and the other no further. Where
 /// both reach it, that counts once.
+///
+/// It takes two products for each entry of the rows that are live in both.
 pub fn beside<L: Ledger>(s: &Tri, t: &Tri, steps: &mut Steps<L>) -> Result<Tri, NoMemory>
     requires cells { s.now.cells ≡ t.now.cells }
     requires reach { table_reach s.now + table_reach t.now < 2 ^ 20 }
@@ -24,7 +27,9 @@ pub fn beside<L: Ledger>(s: &Tri, t: &Tri, steps: &mut Steps<L>) -> Result<Tri, 
         IfOk result (λ r. table_loss r ≤ table_loss s.now + table_loss t.now + 2 ^ 13) }
     ensures reach { s.now.cells ≤ 512 →
         IfOk result (λ r. table_reach r ≤ table_reach s.now + table_reach t.now + 1) }
-    ensures ticks { OnOk result (steps.new ≡ steps.old + s.now.cells * (s.now.cells + 1)) }
+    ensures ticks { OnOk result (steps.new
+        ≡ steps.old + 2 * start s.now.cells (min (live_rows s.now) (live_rows t.now))) }
+    ensures few { steps.new ≤ steps.old + 2 * start s.now.cells (min (live_rows s.now) (live_rows t.now)) }
     ensures at_most { steps.new ≤ steps.old + s.now.cells * (s.now.cells + 1) }
 {
     filled_beside(s, t, steps)
@@ -35,15 +40,17 @@ fn filled_beside<L: Ledger>(s: &Tri, t: &Tri, steps: &mut Steps<L>) -> Result<Tr
     requires reach { table_reach s.now + table_reach t.now < 2 ^ 20 }
     ensures value { IfOk result (λ r. r ≡ beside_of s.now t.now) }
     ensures operands { IsTable s.now × IsTable t.now }
-    ensures ticks { OnOk result (steps.new ≡ steps.old + 2 * start s.now.cells s.now.cells) }
-    ensures at_most { steps.new ≤ steps.old + 2 * start s.now.cells s.now.cells }
+    ensures ticks { OnOk result (steps.new
+        ≡ steps.old + 2 * start s.now.cells (min (live_rows s.now) (live_rows t.now))) }
+    ensures few { steps.new ≤ steps.old + 2 * start s.now.cells (min (live_rows s.now) (live_rows t.now)) }
 {
     let cells = s.cells();
+    let live = s.live().min(t.live());
     let mut entries = Vec::new(s.allocator());
-    for a in 0..t.cells() {
+    for a in 0..live {
         push_beside(&mut entries, s, t, a, steps)?;
     }
-    Ok(Tri::of_entries(cells, entries))
+    Ok(Tri::of_rows(cells, live, entries))
 }
 
 fn push_beside<L: Ledger>(

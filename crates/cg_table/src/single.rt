@@ -3,10 +3,11 @@ ghost use Rattle.std.specs.Prelude.{◌≡◌, ◌+◌, ◌-◌, ◌*◌, ◌++�
 ghost use Rattle.cg_enc.specs.Enclosure.{Encloses};
 ghost use Rattle.cg_table.specs.Exact.{exact_identity, exact_row_table};
 ghost use Rattle.cg_table.specs.Formulas.{identity_entry, identity_of, row_table, total_entry};
+ghost use Rattle.cg_table.specs.Live.{identity_rows_of};
 ghost use Rattle.cg_table.specs.Losses.{greatest_loss, greatest_reach};
 ghost use Rattle.cg_table.specs.Row.{AreEntries};
 ghost use Rattle.cg_table.specs.Sums.{sum_of, total_of};
-ghost use Rattle.cg_table.specs.Table.{IsTable, EnclosesRow, EnclosesTable, entry, row, row_entry};
+ghost use Rattle.cg_table.specs.Table.{IsTable, EnclosesRow, EnclosesTable, entry, row, row_entry, rows};
 ghost use Rattle.cg_table.specs.Table.{table_loss, table_reach};
 
 use crate::row::Row;
@@ -22,17 +23,32 @@ pub fn identity(alloc: Global, cells: usize) -> Result<Tri, NoMemory>
     ensures loss { IfOk result (λ t. table_loss t ≡ 0) }
     ensures reach { IfOk result (λ t. table_reach t ≤ 1) }
 {
-    filled_identity(alloc, cells)
+    let entries = identity_entries(alloc, cells, cells)?;
+    Ok(Tri::of_entries(cells, entries))
 }
 
-fn filled_identity(alloc: Global, cells: usize) -> Result<Tri, NoMemory>
-    ensures { IfOk result (λ t. t ≡ identity_of cells) }
+/// The table of nothing in its first `live` rows, zero in the others.
+pub fn identity_rows(alloc: Global, cells: usize, live: usize) -> Result<Tri, NoMemory>
+    requires within { live ≤ cells }
+    requires few { cells < 2 ^ 33 }
+    ensures value { IfOk result (λ t. t ≡ identity_rows_of cells live) }
+    ensures loss { IfOk result (λ t. table_loss t ≡ 0) }
+    ensures reach { IfOk result (λ t. table_reach t ≤ 1) }
+{
+    let entries = identity_entries(alloc, cells, live)?;
+    Ok(Tri::of_rows(cells, live, entries))
+}
+
+// The first `live` rows.
+fn identity_entries(alloc: Global, cells: usize, live: usize) -> Result<Vec<Enc>, NoMemory>
+    requires { live ≤ cells }
+    ensures { IfOk result (λ v. v.items ≡ rows cells identity_entry live) }
 {
     let mut entries = Vec::new(alloc);
-    for a in 0..cells {
+    for a in 0..live {
         push_identity(&mut entries, cells, a)?;
     }
-    Ok(Tri::of_entries(cells, entries))
+    Ok(entries)
 }
 
 fn push_identity(entries: &mut Vec<Enc>, cells: usize, a: usize) -> Result<(), NoMemory>

@@ -5,6 +5,7 @@ ghost use Rattle.cg_enc.specs.Enclosure.{IsExponent};
 ghost use Rattle.cg_enc.specs.Rounding.{of_whole, over};
 ghost use Rattle.cg_table.specs.Exact.{exact_spanned};
 ghost use Rattle.cg_table.specs.Formulas.{span_power, spanned_entry, spanned_of};
+ghost use Rattle.cg_table.specs.Live.{live_rows};
 ghost use Rattle.cg_table.specs.Table.{IsTable, EnclosesTable, entry, row};
 ghost use Rattle.cg_table.specs.Table.{start, table_loss, table_reach};
 
@@ -17,6 +18,8 @@ use std::sync::ledger::Ledger;
 
 /// The table of members between two Boundaries, at `a` and `b`, of which `n` events have no pair of Boundaries of their
 /// own: what begins at `a` and reaches `b` at the latest, over the number of cells from `a` to `b` once for each of them.
+///
+/// It takes `n` products for each cell, and one for each entry of the live rows.
 pub fn spanned<L: Ledger>(m: &Tri, n: u32, steps: &mut Steps<L>) -> Result<Tri, NoMemory>
     requires { table_reach m.now < 2 ^ 20 }
     ensures value { IfOk result (λ r. r ≡ spanned_of m.now n) }
@@ -30,7 +33,9 @@ pub fn spanned<L: Ledger>(m: &Tri, n: u32, steps: &mut Steps<L>) -> Result<Tri, 
         IfOk result (λ r. table_loss r ≤ table_loss m.now + 2 ^ 13) }
     ensures reach { m.now.cells ≤ 512 → n ≤ 100 →
         IfOk result (λ r. table_reach r ≤ table_reach m.now + 1) }
-    ensures ticks { OnOk result (2 * steps.new ≡ 2 * steps.old + m.now.cells * (m.now.cells + 1) + 2 * (m.now.cells * n)) }
+    ensures ticks { OnOk result (steps.new
+        ≡ steps.old + start m.now.cells (live_rows m.now) + m.now.cells * n) }
+    ensures few { steps.new ≤ steps.old + start m.now.cells (live_rows m.now) + m.now.cells * n }
     ensures at_most { 2 * steps.new ≤ 2 * steps.old + m.now.cells * (m.now.cells + 1) + 2 * (m.now.cells * n) }
 {
     filled_spanned(m, n, steps)
@@ -40,20 +45,21 @@ fn filled_spanned<L: Ledger>(m: &Tri, n: u32, steps: &mut Steps<L>) -> Result<Tr
     requires { table_reach m.now < 2 ^ 20 }
     ensures value { IfOk result (λ r. r ≡ spanned_of m.now n) }
     ensures operand { IsTable m.now }
-    ensures ticks { OnOk result (steps.new ≡ steps.old + start m.now.cells m.now.cells + m.now.cells * n) }
-    ensures at_most { steps.new ≤ steps.old + start m.now.cells m.now.cells + m.now.cells * n }
+    ensures ticks { OnOk result (steps.new
+        ≡ steps.old + start m.now.cells (live_rows m.now) + m.now.cells * n) }
+    ensures few { steps.new ≤ steps.old + start m.now.cells (live_rows m.now) + m.now.cells * n }
 {
-    let cells = m.cells();
+    let (cells, live) = (m.cells(), m.live());
     let powers = powers(m.allocator(), cells, n, steps)?;
     let mut entries = Vec::new(m.allocator());
-    for a in 0..m.cells() {
+    for a in 0..live {
         push_spanned(&mut entries, m, &powers, n, a, steps)?;
     }
-    Ok(Tri::of_entries(cells, entries))
+    Ok(Tri::of_rows(cells, live, entries))
 }
 
-// What each open event takes the weights by, for spans of 1 cell to all.
-fn powers<L: Ledger>(
+/// What each of `n` open events takes the weights by, together, for spans of 1 cell to all.
+pub fn powers<L: Ledger>(
     alloc: Global,
     cells: usize,
     n: u32,

@@ -1,15 +1,23 @@
-use Rattle.std.proofs.Common.{◌+◌, ◌*◌, ◌^◌, arith}
+use Rattle.std.proofs.Common.{◌≡◌, ◌+◌, ◌*◌, ◌^◌, ◌∙◌, ℕ, ap, arith}
 use Rattle.cg_table.specs.Formulas.{after_entry}
+use Rattle.cg_table.specs.Live.{padded}
 use Rattle.cg_table.specs.Table.{entry, table_loss, table_reach}
 use Rattle.cg_table.proofs.FormulaLemmas.{after-within}
-use Rattle.cg_table.proofs.PlaceLemmas.{count_rows}
+use Rattle.cg_table.proofs.LiveLemmas.{length-made, made-table}
 use Rattle.cg_table.proofs.TableLemmas.{rows-near}
 use Rattle.cg_table.proofs.WithinLemmas.{entry-within}
 use Rattle.cg_table.proofs.groups.filled_after.Goals as goal
 
-pub of_entries-requires-clause-count : goal.of_entries-requires-clause-count
-of_entries-requires-clause-count c = rw (c.cells-cells.ensures.value) (count_rows c.args.t.now.cells (after_entry (entry c.args.t.now)) c.loop-a.entries.items c.loop-a.a (omega arith) c.loop-a.invariant)
+pub of_rows-requires-clause-count : goal.of_rows-requires-clause-count
+of_rows-requires-clause-count c =
+    let end : c.rows_after-rows.result ≡ c.loop-a.a = omega arith in
+    rw (c.cells-cells.ensures.value, end) (length-made c.args.t.now.cells c.loop-a.a (after_entry (entry c.args.t.now)) c.loop-a.entries.items c.loop-a.invariant)
 
-pub of_entries-requires-clause-near : goal.of_entries-requires-clause-near
-of_entries-requires-clause-near c = rows-near c.args.t.now.cells (after_entry (entry c.args.t.now)) (table_loss c.args.t.now + 3 * c.args.t.now.cells) (table_reach c.args.t.now * 2 ^ 31 + c.args.t.now.cells) c.loop-a.a c.loop-a.entries.items
+pub of_rows-requires-clause-near : goal.of_rows-requires-clause-near
+of_rows-requires-clause-near c = rows-near c.args.t.now.cells (after_entry (entry c.args.t.now)) (table_loss c.args.t.now + 3 * c.args.t.now.cells) (table_reach c.args.t.now * 2 ^ 31 + c.args.t.now.cells) c.loop-a.a c.loop-a.entries.items
     (λ a b le less. after-within (entry c.args.t.now) (table_loss c.args.t.now) (table_reach c.args.t.now * 2 ^ 31) c.args.t.now.cells a b (λ a b. entry-within c.args.t.now a b c.cells-cells.ensures.table) le less) (omega (arith, c.cells-cells.ensures.table.few, c.requires)) c.loop-a.invariant
+
+pub returns-clause-value : goal.returns-clause-value
+returns-clause-value c =
+    made-table c.of_rows.result c.args.t.now.cells c.loop-a.a (after_entry (entry c.args.t.now)) c.loop-a.entries.items (c.of_rows.ensures ∙ ap (λ (n : ℕ). padded n c.loop-a.entries.items) c.cells-cells.ensures.value) c.loop-a.invariant (omega (arith, c.rows_after-rows.ensures.within))
+    (λ a b low le less. c.rows_after-rows.ensures.dead a b (omega arith) le less)

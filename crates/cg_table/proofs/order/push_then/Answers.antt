@@ -2,7 +2,11 @@ use Rattle.std.proofs.Common.{◌≡◌, ◌+◌, ◌-◌, ◌++◌, ◌∙◌, 
 use Rattle.std.proofs.lemmas.List.{length-replicate, get_or-append-add, get_or-replicate}
 use Rattle.cg_enc.specs.Enclosure.{Enclosure, exact_zero}
 use Rattle.cg_table.proofs.JoinLemmas.{joined-row, written}
+use Rattle.cg_table.proofs.LiveLemmas.{live_rows-most}
 use Rattle.cg_table.proofs.order.push_then.Goals as goal
+
+pub overflow_sub-cells : goal.overflow_sub-cells
+overflow_sub-cells g c = omega (arith, c.requires.row, c.cells.ensures.value, live_rows-most c.args.p.now)
 
 pub join_row-requires-clause-zeros : goal.join_row-requires-clause-zeros
 join_row-requires-clause-zeros g c = λ i less.

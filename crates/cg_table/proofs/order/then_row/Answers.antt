@@ -2,10 +2,12 @@ use Rattle.std.proofs.Common.{◌≡◌, ◌+◌, ◌*◌, ◌^◌, ◌≤◌, a
 use Rattle.std.proofs.lemmas.Result.{IfOk-weaker}
 use Rattle.cg_table.specs.Exact.{exact_then_row}
 use Rattle.cg_table.specs.Formulas.{then_row_entry, then_row_of}
+use Rattle.cg_table.specs.Live.{live_rows}
 use Rattle.cg_table.specs.Losses.{greatest_loss, greatest_reach}
-use Rattle.cg_table.specs.Table.{EnclosesTable, entry, row_entry, start, table_loss, table_reach}
+use Rattle.cg_table.specs.Table.{EnclosesTable, entry, row_entry, table_loss, table_reach}
 use Rattle.cg_table.proofs.FormulaLemmas.{then_row-within, then_row-encloses}
-use Rattle.cg_table.proofs.PlaceLemmas.{start_twice}
+use Rattle.cg_table.proofs.LiveLemmas.{live_rows-most}
+use Rattle.cg_table.proofs.PlaceLemmas.{start_rises, start_twice}
 use Rattle.cg_table.proofs.TableLemmas.{AreWithin, table-loss, table-reach, table-encloses, most}
 use Rattle.cg_table.proofs.WithinLemmas.{entry-within, row_entry-within}
 use Rattle.cg_table.proofs.order.then_row.Goals as goal
@@ -29,11 +31,7 @@ pub returns-clause-reach : goal.returns-clause-reach
 returns-clause-reach g c few = IfOk-weaker _ (λ r. r ≡ then_row_of c.args.p.now c.args.w.now) (λ r. table_reach r ≤ table_reach c.args.p.now + greatest_reach c.args.w.now + 1)
     (λ r is. table-reach r _ _ _ _ (table_reach c.args.p.now + greatest_reach c.args.w.now + 1) (within g c) (omega arith) is) c.filled_then_row.ensures.value
 
-pub returns-clause-ticks : goal.returns-clause-ticks
-returns-clause-ticks g c =
-    let cells = c.args.p.now.cells in
-    IfOk-weaker _ (λ _. c.filled_then_row.new.steps ≡ c.args.steps.now + start cells cells) (λ _. 2 * c.filled_then_row.new.steps ≡ 2 * c.args.steps.now + cells * (cells + 1))
-    (λ _ all. omega (arith, all, start_twice cells cells 0 (omega arith))) c.filled_then_row.ensures.ticks
-
 pub returns-clause-at_most : goal.returns-clause-at_most
-returns-clause-at_most g c = omega (arith, c.filled_then_row.ensures.at_most, start_twice c.args.p.now.cells c.args.p.now.cells 0 (omega arith))
+returns-clause-at_most g c =
+    let p = c.args.p.now in
+    omega (arith, c.filled_then_row.ensures.few, start_rises p.cells (live_rows p) p.cells (live_rows-most p), start_twice p.cells p.cells 0 (omega arith))

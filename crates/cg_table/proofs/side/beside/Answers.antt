@@ -1,10 +1,12 @@
-use Rattle.std.proofs.Common.{◌≡◌, ◌+◌, ◌*◌, ◌^◌, ◌≤◌, arith}
+use Rattle.std.proofs.Common.{◌≡◌, ◌+◌, ◌*◌, ◌^◌, ◌≤◌, ℕ, min, arith}
 use Rattle.std.proofs.lemmas.Result.{IfOk-weaker}
 use Rattle.cg_table.specs.Exact.{exact_beside}
 use Rattle.cg_table.specs.Formulas.{beside_entry, beside_of}
-use Rattle.cg_table.specs.Table.{EnclosesTable, entry, start, table_loss, table_reach}
+use Rattle.cg_table.specs.Live.{live_rows}
+use Rattle.cg_table.specs.Table.{EnclosesTable, entry, table_loss, table_reach}
 use Rattle.cg_table.proofs.FormulaLemmas.{beside-within, beside-encloses}
-use Rattle.cg_table.proofs.PlaceLemmas.{start_twice}
+use Rattle.cg_table.proofs.LiveLemmas.{live_rows-most}
+use Rattle.cg_table.proofs.PlaceLemmas.{start_rises, start_twice}
 use Rattle.cg_table.proofs.TableLemmas.{AreWithin, table-loss, table-reach, table-encloses, most}
 use Rattle.cg_table.proofs.WithinLemmas.{entry-within}
 use Rattle.cg_table.proofs.side.beside.Goals as goal
@@ -28,11 +30,8 @@ pub returns-clause-reach : goal.returns-clause-reach
 returns-clause-reach g c few = IfOk-weaker _ (λ r. r ≡ beside_of c.args.s.now c.args.t.now) (λ r. table_reach r ≤ table_reach c.args.s.now + table_reach c.args.t.now + 1)
     (λ r is. table-reach r _ _ _ _ (table_reach c.args.s.now + table_reach c.args.t.now + 1) (within g c) (omega arith) is) c.filled_beside.ensures.value
 
-pub returns-clause-ticks : goal.returns-clause-ticks
-returns-clause-ticks g c =
-    let cells = c.args.s.now.cells in
-    IfOk-weaker _ (λ _. c.filled_beside.new.steps ≡ c.args.steps.now + 2 * start cells cells) (λ _. c.filled_beside.new.steps ≡ c.args.steps.now + cells * (cells + 1))
-    (λ _ all. omega (arith, all, start_twice cells cells 0 (omega arith))) c.filled_beside.ensures.ticks
-
 pub returns-clause-at_most : goal.returns-clause-at_most
-returns-clause-at_most g c = omega (arith, c.filled_beside.ensures.at_most, start_twice c.args.s.now.cells c.args.s.now.cells 0 (omega arith))
+returns-clause-at_most g c =
+    let s = c.args.s.now in
+    let live : ℕ = min (live_rows s) (live_rows c.args.t.now) in
+    omega (arith, c.filled_beside.ensures.few, start_rises s.cells live s.cells (omega (arith, live_rows-most s)), start_twice s.cells s.cells 0 (omega arith))

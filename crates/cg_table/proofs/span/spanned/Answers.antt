@@ -2,9 +2,11 @@ use Rattle.std.proofs.Common.{◌≡◌, ◌+◌, ◌*◌, ◌^◌, ◌≤◌, a
 use Rattle.std.proofs.lemmas.Result.{IfOk-weaker}
 use Rattle.cg_table.specs.Exact.{exact_spanned}
 use Rattle.cg_table.specs.Formulas.{spanned_entry, spanned_of}
-use Rattle.cg_table.specs.Table.{EnclosesTable, entry, start, table_loss, table_reach}
+use Rattle.cg_table.specs.Live.{live_rows}
+use Rattle.cg_table.specs.Table.{EnclosesTable, entry, table_loss, table_reach}
 use Rattle.cg_table.proofs.FormulaLemmas.{spanned-within, spanned-encloses}
-use Rattle.cg_table.proofs.PlaceLemmas.{start_twice}
+use Rattle.cg_table.proofs.LiveLemmas.{live_rows-most}
+use Rattle.cg_table.proofs.PlaceLemmas.{start_rises, start_twice}
 use Rattle.cg_table.proofs.TableLemmas.{AreWithin, table-loss, table-reach, table-encloses, most}
 use Rattle.cg_table.proofs.WithinLemmas.{entry-within}
 use Rattle.cg_table.proofs.span.spanned.Goals as goal
@@ -28,11 +30,7 @@ pub returns-clause-reach : goal.returns-clause-reach
 returns-clause-reach g c few opened = IfOk-weaker _ (λ r. r ≡ spanned_of c.args.m.now c.args.n) (λ r. table_reach r ≤ table_reach c.args.m.now + 1)
     (λ r is. table-reach r _ _ _ _ (table_reach c.args.m.now + 1) (within g c) (omega arith) is) c.filled_spanned.ensures.value
 
-pub returns-clause-ticks : goal.returns-clause-ticks
-returns-clause-ticks g c =
-    let cells = c.args.m.now.cells in
-    IfOk-weaker _ (λ _. c.filled_spanned.new.steps ≡ c.args.steps.now + start cells cells + cells * c.args.n) (λ _. 2 * c.filled_spanned.new.steps ≡ 2 * c.args.steps.now + cells * (cells + 1) + 2 * (cells * c.args.n))
-    (λ _ all. omega (arith, all, start_twice cells cells 0 (omega arith))) c.filled_spanned.ensures.ticks
-
 pub returns-clause-at_most : goal.returns-clause-at_most
-returns-clause-at_most g c = omega (arith, c.filled_spanned.ensures.at_most, start_twice c.args.m.now.cells c.args.m.now.cells 0 (omega arith))
+returns-clause-at_most g c =
+    let m = c.args.m.now in
+    omega (arith, c.filled_spanned.ensures.few, start_rises m.cells (live_rows m) m.cells (live_rows-most m), start_twice m.cells m.cells 0 (omega arith))

@@ -5,7 +5,7 @@ use Rattle.cg_table.proofs.ReachLemmas.{greatest_reach-IsExponent, greatest_reac
 use Rattle.cg_table.proofs.tri.Tri.reach.Goals as goal
 
 kept : (c : goal.After-self) → c.self.inside.reach ≡ greatest_reach c.args.self.now.entries
-kept c = c.self.invariant.2 ∙ ap (λ (t : Table). table_reach t) c.self.view_is
+kept c = c.self.invariant.4 ∙ ap (λ (t : Table). table_reach t) c.self.view_is
 
 pub returns-clause-each : goal.returns-clause-each
 returns-clause-each c = rw (kept c) (greatest_reach-IsExponent c.args.self.now.entries)
