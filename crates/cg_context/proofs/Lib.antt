@@ -1,0 +1,15 @@
+pub mod TotalLemmas
+pub mod DownSums
+pub mod CallLemmas
+pub mod TermLemmas
+pub mod RowLemmas
+pub mod ColumnLemmas
+pub mod FallingLemmas
+pub mod LaterLemmas
+pub mod BackLemmas
+pub mod GroupLemmas
+pub mod CountdownLemmas
+pub mod SpanLemmas
+pub mod PhaseLemmas
+pub mod SequenceLemmas
+pub mod MemberLemmas
