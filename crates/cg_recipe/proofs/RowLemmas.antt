@@ -84,7 +84,8 @@ find : (tree : Tree) (scene : Scene) (w : Weighting) (number : ℕ) (found : Opt
 find tree scene w number None known admitted is = (1, λ dating here. absurd (cc))
 find tree scene w number (Some d) known admitted is =
     let own = is_dating tree number d is in
-    let e = (likelihood tree scene number known).0.encloses (w number) (subst (λ (x : Dating). IsAdmitted scene x (w number)) (sym own) (admitted number d is)) in (
+    let e = (likelihood tree scene number known).0.encloses (w number)
+    (subst (λ (x : Dating). IsAdmitted scene x (w number)) (sym own) (admitted number d is)) in (
       e.multiplier,
       λ dating here. (
         e.some,
@@ -119,7 +120,8 @@ some_weighting tree scene known number = (likelihood tree scene number known).1.
 pub some-admitted : (tree : Tree) (scene : Scene) (known : IsKnown tree scene) → AreAdmitted tree scene (some_weighting tree scene known)
 unfolding some_weighting
 some-admitted tree scene known event dating here =
-    subst (λ (d : Dating). IsAdmitted scene d (some_weighting tree scene known event)) (is_dating tree event dating here) (likelihood tree scene event known).1.admitted
+    subst (λ (d : Dating). IsAdmitted scene d (some_weighting tree scene known event)) (is_dating tree event dating here)
+    (likelihood tree scene event known).1.admitted
 
 -- a product of factors above 0
 product-some : (g k : ℕ) (w : Weighting) (cells : List ℕ) → AreCells g cells → ((i cell : ℕ) → i < length cells → cell < g → 0 < w (k + i) cell) →

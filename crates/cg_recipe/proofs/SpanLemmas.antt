@@ -5,7 +5,7 @@ use Rattle.cg_meaning.specs.Sums.{product_by}
 use Rattle.cg_meaning.specs.Pairs.{pair_at, span_weight, factorial}
 use Rattle.cg_meaning.proofs.Sums.{AreCells}
 use Rattle.cg_part.proofs.Factorials.{exact-spans}
-use Rattle.cg_recipe.proofs.StepLemmas.{factorial-some}
+use Rattle.cg_context.proofs.CallLemmas.{factorial-some}
 
 -- a factor of a number above 0
 factor-some : (w s n : ℕ) → w * s ≡ n → 0 < n → 0 < w

@@ -120,7 +120,8 @@ carbon-some age error year m w (Some point) some h gaps covered weight =
     weight-some m w (from_curve age error point) some (omega (arith, scaled)) gap weight
 
 -- Admitted weights of a dating that can be weighed.
-pub admitted-some : (scene : Scene) (dating : Dating) (weights : ℕ → ℕ) (cell : ℕ) → IsInRange dating → IsCovered scene dating → IsAdmitted scene dating weights →
+pub admitted-some : (scene : Scene) (dating : Dating) (weights : ℕ → ℕ) (cell : ℕ) → IsInRange dating → IsCovered scene dating →
+    IsAdmitted scene dating weights →
     cell < scene.grid.cells → 0 < weights cell
 admitted-some scene Free weights cell ranged covered admitted h = omega (arith, admitted cell h)
 admitted-some scene (Exact year) weights cell ranged covered admitted h = omega (arith, admitted cell h)
@@ -128,6 +129,7 @@ admitted-some scene (Normal year error) weights cell ranged covered admitted h =
     weight-some admitted.multiplier (weights cell) (from_year year error (year_of scene.grid cell)) admitted.some
     (square-some error (error-some error ranged.some)) (omega arith) (admitted.each cell h)
 admitted-some scene (Carbon age error) weights cell ranged covered admitted h =
-    carbon-some age error (year_of scene.grid cell) admitted.multiplier (weights cell) (point_at scene.curve (year_of scene.grid cell)) admitted.some ranged.some
+    carbon-some age error (year_of scene.grid cell) admitted.multiplier (weights cell)
+    (point_at scene.curve (year_of scene.grid cell)) admitted.some ranged.some
     (λ point. point-gap scene.curve (year_of scene.grid cell) point)
     (covered-at scene (Carbon age error) cell (on-curve scene.curve (fault_from scene (Carbon age error) 0 scene.grid.cells) covered) h) (admitted.each cell h)

@@ -1,4 +1,4 @@
-use Rattle.cg_recipe.proofs.BoundsTrees.{bounded}
+use Rattle.cg_recipe.proofs.BoundsElements.{bounded}
 use Rattle.cg_recipe.proofs.laws.tables_are_bounded.Goals as goal
 
 pub returns : goal.returns

@@ -1,4 +1,4 @@
-use Rattle.cg_recipe.proofs.NodeLemmas.{part-sums}
+use Rattle.cg_recipe.proofs.TreeLemmas.{part-sums}
 use Rattle.cg_recipe.proofs.laws.tables_enclose_part_sums.Goals as goal
 
 pub returns : goal.returns
