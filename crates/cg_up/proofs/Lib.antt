@@ -1,6 +1,13 @@
-pub mod MemberLemmas
-pub mod OrderedLemmas
+pub mod AroundLemmas
+pub mod ArrangedLemmas
+pub mod CutLemmas
+pub mod DownLemmas
+pub mod ElementLemmas
 pub mod PartLemmas
-pub mod PassLemmas
+pub mod ReachLemmas
+pub mod RoomLemmas
+pub mod RootLemmas
 pub mod RowLemmas
+pub mod SizeLemmas
+pub mod TickLemmas
 pub mod WeightLemmas

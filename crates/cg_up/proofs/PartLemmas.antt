@@ -1,57 +1,70 @@
 -- The parts of all cells, and what is made of them.
-use Rattle.std.proofs.Common.{◌≡◌, ℕ, ◌*◌, ◌^◌, ◌<◌, ◌≤◌, List, length, map, arith, sym, subst, ap, ◌∙◌}
-use Rattle.cg_enc.specs.Enclosure.{Enclosure, IsExponent}
+use Rattle.std.proofs.Common.{◌≡◌, ℕ, ◌+◌, ◌*◌, ◌^◌, ◌<◌, ◌≤◌, List, length, map, arith, ap, ◌∙◌}
+use Rattle.std.proofs.lemmas.List.FromFn.{length-map-range_with_len}
+use Rattle.cg_enc.specs.Enclosure.{Enclosure, HasLoss, IsExponent}
 use Rattle.cg_table.specs.Losses.{greatest_loss, greatest_reach}
-use Rattle.cg_table.proofs.ReachLemmas.{IsExponent-more}
+use Rattle.cg_table.proofs.LossLemmas.{HasLoss-more, greatest_loss-least}
+use Rattle.cg_table.proofs.ReachLemmas.{IsExponent-more, greatest_reach-least}
+use Rattle.cg_context.specs.Formulas.{root_context}
 use Rattle.cg_marginal.specs.Finished.{finished}
-use Rattle.cg_meaning.specs.Tree.{Tree, Trees, count_all, datings_of}
+use Rattle.cg_meaning.specs.Tree.{Tree, datings_of}
 use Rattle.cg_meaning.specs.Scene.{Scene}
-use Rattle.cg_model.specs.Limits.{IsWithinLimits}
 use Rattle.cg_like.specs.Likelihood.{weights_of}
-use Rattle.cg_recipe.specs.Recipe.{Rows, part_of, parts_of, recipe}
-use Rattle.cg_recipe.specs.Bounds.{AreLight}
-use Rattle.cg_recipe.proofs.BoundsTrees.{bounded}
-use Rattle.cg_recipe.proofs.PartLemmas.{IsAsked, part-within, parts-loss, parts-reach, length-parts_of}
-use Rattle.cg_up.specs.Pass.{root, rows_of}
+use Rattle.cg_part.specs.Elements.{Element, element_of}
+use Rattle.cg_recipe.specs.Recipe.{Rows, part_at, parts_of, recipe}
+use Rattle.cg_recipe.specs.Bounds.{weight_loss, events_in, nodes_in, IsBounded}
+use Rattle.cg_recipe.proofs.BoundsPath.{parts-bounded}
+use Rattle.cg_up.specs.Pass.{IsReady, IsFit, pass_of, rows_of}
+use Rattle.cg_up.specs.declared.pass.Pass as code
+use Rattle.cg_up.proofs.RowLemmas.{All-cells}
 use Rattle.cg_up.proofs.WeightLemmas.{rows-are}
 
--- an event of a model, over rows that lose little
-pub asked : (cells : ℕ) (rows : Rows) (ts : Trees) (event : ℕ) → 1 ≤ cells → cells ≤ 512 → AreLight cells rows → IsWithinLimits ts → event < count_all ts → IsAsked cells rows (root ts) event
-asked cells rows ts event some few light limits inside = record { some = some; few = few; events = limits.events; groups = omega (arith, limits.groups); inside = inside; light = light }
+-- What pairs can be made of.
+pub record IsFinished (parts : List Enclosure) : Type 0 where
+  pub some : 0 < length parts
+  pub few : length parts ≤ 512
+  pub loss : greatest_loss parts < 2 ^ 41
+  pub reach : greatest_reach parts < 2 ^ 20
 
--- a part can be put to a row
-pub part-near : (cells : ℕ) (rows : Rows) (ts : Trees) (event cell : ℕ) → IsAsked cells rows (root ts) event → IsExponent (2 ^ 60) (part_of cells rows (root ts) event cell).exp
-part-near cells rows ts event cell asked =
-    IsExponent-more (part_of cells rows (root ts) event cell).exp (1289 * 2 ^ 31) (2 ^ 60) (omega arith) (part-within cells rows (root ts) event cell bounded asked).near
+-- the loss of a tree of 100 events and 161 nodes
+loss-bound : (events nodes : ℕ) → events ≤ 100 → nodes ≤ 161 → events * (9 * 2 ^ 30 + 16) + 8 * nodes * 2 ^ 13 ≤ 2 ^ 40
+loss-bound events nodes few few' = omega arith
+
+-- the parts of an event are so
+pub parts-finished : (pass : code.Pass) (n event : ℕ) (e : Element) (parts : List Enclosure) → IsReady pass → IsFit n e → parts ≡ parts_of (pass_of pass) event e → IsFinished parts
+parts-finished pass n event e parts ready fit is =
+    rw is (record {
+      some = omega (arith, each, ready.some);
+      few = omega (arith, each, ready.few);
+      loss = omega (
+        arith,
+        greatest_loss-least all (2 ^ 40) (All-cells (λ x. HasLoss x (2 ^ 40)) pass.cells at (λ cell less.
+            HasLoss-more (at cell) (events_in e * weight_loss + 8 * nodes_in e * 2 ^ 13) (2 ^ 40) (loss-bound (events_in e) (nodes_in e) fit.events (omega (arith, fit.events, fit.groups))) (bounds cell less).lost)),
+      );
+      reach = omega (
+        arith,
+        greatest_reach-least all 1289 (All-cells (λ x. IsExponent (1289 * 2 ^ 31) x.exp) pass.cells at (λ cell less.
+            IsExponent-more (at cell).exp ((8 * nodes_in e + 1) * 2 ^ 31) (1289 * 2 ^ 31) (omega (arith, fit.events, fit.groups)) (bounds cell less).near)),
+      );
+    })
+  where
+    at : ℕ → Enclosure
+    at cell = part_at (pass_of pass) event cell e (root_context pass.cells)
+
+    all : List Enclosure
+    all = parts_of (pass_of pass) event e
+
+    each : length all ≡ pass.cells
+    each = length-map-range_with_len at 0 pass.cells
+
+    bounds : (cell : ℕ) → cell < pass.cells → IsBounded (events_in e * weight_loss + 8 * nodes_in e * 2 ^ 13) (8 * nodes_in e + 1) (at cell)
+    bounds cell less = parts-bounded (pass_of pass) event cell e ready.some ready.few ready.light fit.events fit.groups less
 
 -- the pairs of these parts are the recipe's
-pub recipe-is : (scene : Scene) (tree : Tree) (event cells : ℕ) (rows : List (List Enclosure)) (sums : List Enclosure) → cells ≡ scene.grid.cells → rows ≡ map (weights_of scene) (datings_of tree) →
-    sums ≡ parts_of cells (rows_of cells rows) tree event → finished sums ≡ recipe tree scene event
+pub recipe-is : (scene : Scene) (tree : Tree) (event cells : ℕ) (rows : List (List Enclosure)) (parts : List Enclosure) → cells ≡ scene.grid.cells → rows ≡ map (weights_of scene) (datings_of tree) →
+    parts ≡ parts_of (record { cells = cells; rows = rows_of cells rows }) event (element_of 0 tree) → finished parts ≡ recipe tree scene event
 unfolding recipe
-recipe-is scene tree event cells rows sums same is all =
-    ap finished (all ∙ ap (λ (n : ℕ). parts_of n (rows_of n rows) tree event) same ∙ ap (λ (r : Rows). parts_of scene.grid.cells r tree event) (rows-are scene tree rows is))
-
--- What pairs can be made of.
-pub record IsFinished (sums : List Enclosure) : Type 0 where
-  pub some : 0 < length sums
-  pub few : length sums ≤ 512
-  pub loss : greatest_loss sums < 2 ^ 41
-  pub reach : greatest_reach sums < 2 ^ 20
-
-pub parts-finished : (cells n event : ℕ) (rows given : List (List Enclosure)) (ts top : Trees) (sums : List Enclosure) → 1 ≤ cells → cells ≤ 512 → cells ≡ n → AreLight n (rows_of n rows) → IsWithinLimits ts → event < count_all ts →
-    given ≡ rows → top ≡ ts → sums ≡ parts_of cells (rows_of cells given) (root top) event → IsFinished sums
-parts-finished cells n event rows given ts top sums some few same light limits inside given_is top_is is =
-    let tree = root ts in
-    let light_here = subst (λ (m : ℕ). AreLight m (rows_of m rows)) (sym same) light in
-    let event_here = asked cells (rows_of cells rows) ts event some few light_here limits inside in
-    let all : sums ≡ parts_of cells (rows_of cells rows) tree event = rw (← given_is, ← top_is) is in
-    rw all (record {
-      some = omega (arith, length-parts_of cells (rows_of cells rows) tree event, some);
-      few = omega (arith, length-parts_of cells (rows_of cells rows) tree event, few);
-      loss = parts-loss cells (rows_of cells rows) tree event bounded event_here;
-      reach = parts-reach cells (rows_of cells rows) tree event bounded event_here;
-    })
-
-pub parts-are : (cells event : ℕ) (rows given : List (List Enclosure)) (ts top : Trees) (sums : List Enclosure) → given ≡ rows → top ≡ ts → sums ≡ parts_of cells (rows_of cells given) (root top) event →
-    sums ≡ parts_of cells (rows_of cells rows) (root ts) event
-parts-are cells event rows given ts top sums given_is top_is is = rw (← given_is, ← top_is) is
+recipe-is scene tree event cells rows parts same is all =
+    ap finished
+    (all ∙ ap (λ (n : ℕ). parts_of (record { cells = n; rows = rows_of n rows }) event (element_of 0 tree)) same
+    ∙ ap (λ (r : Rows). parts_of (record { cells = scene.grid.cells; rows = r }) event (element_of 0 tree)) (rows-are scene tree rows is))

@@ -1,14 +1,12 @@
--- Rows of cells, and entries of a table.
-use Rattle.std.proofs.Common.{◌≡◌, ℕ, ◌+◌, ◌^◌, List, [], ◌∷◌, ◌++◌, map, arith, sym}
-use Rattle.std.specs.List.{range_with_len}
-use Rattle.std.proofs.lemmas.List.FromFn.{map-range_with_len_more}
-use Rattle.cg_table.specs.Table.{Table, IsTable, entry, place, table_loss}
-use Rattle.cg_table.proofs.WithinLemmas.{IsWithin, row_entry-near}
+-- Rows of cells.
+use Rattle.std.proofs.Common.{ℕ, ◌<◌, map, arith, subst, sym}
+use Rattle.std.specs.List.{All, range_with_len}
+use Rattle.std.proofs.lemmas.List.Elements.{All-from_get_or}
+use Rattle.std.proofs.lemmas.List.FromFn.{get_or-map-range_with_len, length-map-range_with_len}
+use Rattle.cg_enc.specs.Enclosure.{Enclosure, exact_zero}
 
--- one more cell
-pub cells_more : {A : Type 0} (f : ℕ → A) (n : ℕ) (items : List A) (x : A) → x ≡ f n → items ≡ map f (range_with_len 0 n) → items ++ x ∷ [] ≡ map f (range_with_len 0 (n + 1))
-cells_more f n items x is h = rw (h, is) (sym (map-range_with_len_more f 0 n n (omega arith)))
-
--- an entry of any table
-pub entry-near : (t : Table) (a b : ℕ) → IsTable t → IsWithin (entry t a b) (table_loss t) (2 ^ 60)
-entry-near t a b h = row_entry-near t.entries (place t.cells a b) h.entries
+-- what holds at each cell holds of the row
+pub All-cells : (P : Enclosure → Type 0) (n : ℕ) (f : ℕ → Enclosure) → ((c : ℕ) → c < n → P (f c)) → All P (map f (range_with_len 0 n))
+All-cells P n f h = All-from_get_or P (map f (range_with_len 0 n)) exact_zero
+    (λ c less. let inside : c < n = omega (arith, less, length-map-range_with_len f 0 n) in
+    subst P (sym (get_or-map-range_with_len f 0 n c c exact_zero inside (omega arith))) (h c inside))

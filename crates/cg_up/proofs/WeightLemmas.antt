@@ -22,7 +22,7 @@ use Rattle.cg_like.specs.Likelihood.{weights_of, IsLikelihood, HasWeights}
 use Rattle.cg_recipe.specs.Recipe.{rows_in}
 use Rattle.cg_recipe.specs.Bounds.{AreLight, weight_loss}
 use Rattle.cg_recipe.proofs.BoundsTables.{IsBoundedRow}
-use Rattle.cg_recipe.proofs.BoundsRows.{All-cells}
+use Rattle.cg_up.proofs.RowLemmas.{All-cells}
 use Rattle.cg_up.specs.Weighable.{IsWeighable, AreWeighable}
 use Rattle.cg_up.specs.Pass.{ones, rows_of}
 
@@ -49,6 +49,7 @@ row-bounded cells rows all number =
       | inr past ↦ subst (IsBoundedRow cells weight_loss 1) (sym (get_or-eq_default rows (ones cells) past)) (ones-bounded cells)
     ]
 
+-- all rows
 pub rows-light : (cells : ℕ) (rows : List (List Enclosure)) → All (IsBoundedRow cells weight_loss 1) rows → AreLight cells (rows_of cells rows)
 rows-light cells rows all = record {
   each = λ number. (row-bounded cells rows all number).each;
@@ -65,6 +66,7 @@ likelihood-bounded scene dating row h = record { each = h.each; entries = h.entr
 pub rows-are : (scene : Scene) (tree : Tree) (rows : List (List Enclosure)) → rows ≡ map (weights_of scene) (datings_of tree) → rows_of scene.grid.cells rows ≡ rows_in scene tree
 rows-are scene tree rows is = rw is (fun_ext (λ number. get_or-map (weights_of scene) (datings_of tree) number Free))
 
+-- one more dating
 take-next : (datings : List Dating) (event : ℕ) (dating : Dating) → slice_get datings event ≡ Some dating → take (event + 1) datings ≡ take event datings ++ dating ∷ []
 take-next datings event dating here =
     take_more datings event dating (slice_get_within datings event dating here) ∙ ap (λ d. take event datings ++ d ∷ []) (get_or_from_slice_get datings event dating dating here)
@@ -91,5 +93,6 @@ weighable-next scene datings event dating row here is likelihood some all =
     subst (AreWeighable scene) (sym (take-next datings event dating here))
     (All-push (λ d. IsWeighable scene d) (take event datings) dating all (subst (λ (r : List Enclosure). IsLikelihood scene dating r) is likelihood, some))
 
+-- so can all
 pub weighable-all : (scene : Scene) (datings : List Dating) (event : ℕ) → length datings ≤ event → AreWeighable scene (take event datings) → AreWeighable scene datings
 weighable-all scene datings event past all = subst (AreWeighable scene) (take_all event datings past) all

@@ -1,5 +1,5 @@
+pub mod Arranged
 pub mod Curve
-pub mod Member
-pub mod Ordered
+pub mod Element
 pub mod Pass
 pub mod Weighable

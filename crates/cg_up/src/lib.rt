@@ -1,10 +1,13 @@
-//! The marginal of an event of a model's tree, by one pass of tables over the tree for each cell of the grid.
+//! The marginal of an event of a model's tree: tables from the events up, and contexts from the root down to the event.
 #![tactic(auto)]
 
-mod hold;
+mod arrange;
+mod arranged;
+mod down;
+mod element;
 mod marginal;
-mod ordered;
 mod pass;
+mod preceding;
 mod rows;
 mod size;
 mod tables;

@@ -1,5 +1,5 @@
 //! The marginal of an event.
-ghost use Rattle.std.specs.Prelude.{◌≡◌, ◌+◌, ◌*◌, ◌<◌, ◌≤◌, IfOk, IfSome, length};
+ghost use Rattle.std.specs.Prelude.{◌≡◌, ◌+◌, ◌<◌, ◌≤◌, IfOk, IfSome, length};
 ghost use Rattle.cg_meaning.specs.Tree.{count, count_all, root_of};
 ghost use Rattle.cg_meaning.specs.Scene.{scene_of};
 ghost use Rattle.cg_meaning.specs.Cover.{AreCovered};
@@ -8,20 +8,23 @@ ghost use Rattle.cg_model.specs.Limits.{IsWithinLimits};
 ghost use Rattle.cg_model.specs.Node.{trees_of};
 ghost use Rattle.cg_marginal.specs.Marginal.{pairs_of};
 ghost use Rattle.cg_marginal.specs.Pairs.{ArePairs};
-ghost use Rattle.cg_recipe.specs.Bounds.{AreLight};
+ghost use Rattle.cg_part.specs.Elements.{element_of};
 ghost use Rattle.cg_recipe.specs.Recipe.{parts_of, recipe};
-ghost use Rattle.cg_recipe.specs.Ticks.{ticks_of};
+ghost use Rattle.cg_recipe.specs.Ticks.{part_ticks};
 ghost use Rattle.cg_up.specs.Curve.{rows_at};
-ghost use Rattle.cg_up.specs.Pass.{root, rows_of};
+ghost use Rattle.cg_up.specs.Pass.{IsReady, pass_of, root};
 
+use crate::arrange::members_of;
+use crate::down::parts_at;
+use crate::element::Element;
 use crate::pass::Pass;
 use crate::rows::{curve_of, rows_of};
-use crate::tables::side_by_side;
+use cg_context::root;
 use cg_curve::Curves;
 use cg_marginal::{Marginal, finish};
-use cg_model::{Grid, Members, ModelTree};
+use cg_model::{Grid, GroupKind, Members, ModelTree};
 use cg_num::NoMemory;
-use cg_table::{Row, Steps, total};
+use cg_table::{Row, Steps};
 use std::alloc::Global;
 use std::sync::ledger::Ledger;
 
@@ -49,36 +52,31 @@ pub fn evaluate<L: Ledger>(
 
     // Lower and upper end are at most 3 apart.
     ensures narrow { IfOk result (λ marginal. IfSome (pairs_of marginal) ArePairs) }
-    ensures ticks { steps.new ≤ steps.old + grid.now.cells * ticks_of grid.now.cells (root_of model.now) }
+    ensures ticks { steps.new ≤ steps.old + part_ticks grid.now.cells event (element_of 0 (root_of model.now)) }
 {
     let rows = rows_of(alloc, model, grid, curve_of(curves, curve))?;
-    let sums = parts_of(alloc, model.top(), &rows, event, grid.cells(), steps)?;
-    finish(alloc, &sums)
+    let pass = Pass::new(alloc, grid.cells(), &rows);
+    let parts = parts_of(&pass, model.top(), event, steps)?;
+    finish(alloc, &parts)
 }
 
-// What the table of the whole tree has in all, with the event held at each cell in turn.
+// What the datings with the event at each cell have in all.
 fn parts_of<L: Ledger>(
-    alloc: Global,
+    pass: &Pass,
     top: &Members,
-    rows: &[Row],
     event: u32,
-    cells: usize,
     steps: &mut Steps<L>,
 ) -> Result<Row, NoMemory>
-    requires some { 1 ≤ cells }
-    requires few { cells ≤ 512 }
+    requires ready { IsReady pass.now }
     requires limits { IsWithinLimits (trees_of top.now) }
-    requires light { AreLight cells (rows_of cells rows.now) }
-    requires each { length rows.now ≡ count_all (trees_of top.now) }
+    requires rows { count_all (trees_of top.now) ≤ length pass.now.rows.now }
     requires event { event < count_all (trees_of top.now) }
-    ensures value { IfOk result (λ parts. parts ≡ parts_of cells (rows_of cells rows.now) (root (trees_of top.now)) event) }
-    ensures ticks { steps.new ≤ steps.old + cells * ticks_of cells (root (trees_of top.now)) }
+    ensures value { IfOk result (λ parts. parts
+        ≡ parts_of (pass_of pass.now) event (element_of 0 (root (trees_of top.now)))) }
+    ensures ticks { steps.new ≤ steps.old
+        + part_ticks pass.now.cells event (element_of 0 (root (trees_of top.now))) }
 {
-    let mut parts = Row::new(alloc);
-    for cell in 0..cells {
-        let pass = Pass::new(alloc, cells, rows, event, cell)?;
-        let table = side_by_side(&pass, 0, top, steps)?;
-        parts.push(total(&table))?;
-    }
-    Ok(parts)
+    let whole = Element::Group(GroupKind::Phase, members_of(pass.alloc(), 0, top)?);
+    let x = root(pass.alloc(), pass.cells())?;
+    parts_at(pass, event, &whole, x, steps)
 }

@@ -1,82 +1,89 @@
-//! How many of a node's events are open.
-ghost use Rattle.std.specs.Prelude.{◌≡◌, ◌≤◌, false};
-ghost use Rattle.cg_meaning.specs.Tree.{count, count_all};
-ghost use Rattle.cg_model.specs.Node.{tree_of, trees_of};
-ghost use Rattle.cg_part.specs.Spans.{has_boundary, open_events, open_in_all, open_in_sequence};
-ghost use Rattle.cg_model.specs.Member.{is_boundary, trees_from};
-ghost use Rattle.cg_up.specs.Member.{open_member};
+//! Which events an element has, and how many of them are open.
+ghost use Rattle.std.specs.Prelude.{◌≡◌, ◌≤◌, ◌<◌, true, false, length, slice_get, take, Some};
+ghost use Rattle.cg_part.specs.Elements.{more, has, has_among, open_events, open_in};
+ghost use Rattle.cg_recipe.specs.Bounds.{events_in, events_among};
+ghost use Rattle.cg_up.specs.Element.{all_in, element_in, joined};
 
-use cg_model::{Members, Node};
+use crate::element::Element;
+use cg_model::GroupKind;
 
-/// Whether a node is a Boundary.
-pub(crate) fn is_boundary(node: &Node) -> bool
-    ensures { result ≡ is_boundary (tree_of node.now) }
+/// How many of the elements' events have no pair of Boundaries within them.
+#[cycle(open)]
+pub(crate) fn open_in(items: &[Element]) -> u32
+    requires { events_among (all_in items.now) ≤ 100 }
+    ensures { result ≡ open_in (all_in items.now) }
 {
-    matches!(node, Node::Boundary(_))
+    let mut sum = 0;
+    for e in items {
+        sum += open_events(e);
+    }
+    sum
 }
 
-/// Whether one of the members from a place on is a Boundary.
-pub(crate) fn has_boundary(members: &Members, from: usize) -> bool
-    ensures { result ≡ has_boundary (trees_from members.now from) }
+// Of a span the Boundary that closes it.
+#[cycle(open)]
+fn open_events(e: &Element) -> u32
+    requires { events_in (element_in e.now) ≤ 100 }
+    ensures { result ≡ open_events (element_in e.now) }
 {
-    for place in from..members.len() {
-        if is_boundary(members.get(place)) {
+    match e {
+        Element::Event(_) | Element::Span(_, _) => 1,
+        Element::Group(kind, elements) => match kind {
+            GroupKind::Sequence | GroupKind::Phase => open_in(elements.items()),
+            GroupKind::After | GroupKind::Before => 0,
+        },
+    }
+}
+
+/// The elements before the one that has the event, that one, and those behind it.
+pub(crate) fn around(event: u32, items: &[Element]) -> (&[Element], &Element, &[Element])
+    requires { has_among event (all_in items.now) ≡ true }
+    ensures all { all_in items.now
+        ≡ joined (all_in result.0.now) (more (element_in result.1.now) (all_in result.2.now)) }
+    ensures before { has_among event (all_in result.0.now) ≡ false }
+    ensures own { has event (element_in result.1.now) ≡ true }
+{
+    let place = place_of(event, items);
+    (&items[..place], &items[place], &items[place + 1..])
+}
+
+// One of them has it, so that the end isn't reached.
+fn place_of(event: u32, items: &[Element]) -> usize
+    requires { has_among event (all_in items.now) ≡ true }
+    ensures within { result < length items.now }
+    ensures before { has_among event (all_in (take result items.now)) ≡ false }
+    ensures own { (e : Element) → slice_get items.now result ≡ Some e → has event (element_in e) ≡ true }
+{
+    for (place, e) in items.iter().enumerate() {
+        if has(event, e) {
+            return place;
+        }
+    }
+    items.len()
+}
+
+// Whether the event is in the element.
+#[cycle(has)]
+fn has(event: u32, e: &Element) -> bool
+    ensures { result ≡ has event (element_in e.now) }
+{
+    match e {
+        Element::Event(number) => event == *number,
+        Element::Group(_, elements) => has_among(event, elements.items()),
+        Element::Span(elements, closing) => {
+            has_among(event, elements.items()) || event == *closing
+        }
+    }
+}
+
+#[cycle(has)]
+fn has_among(event: u32, items: &[Element]) -> bool
+    ensures { result ≡ has_among event (all_in items.now) }
+{
+    for e in items {
+        if has(event, e) {
             return true;
         }
     }
     false
-}
-
-/// How many of a node's events have no Boundary pair within it.
-#[cycle(open)]
-pub(crate) fn open_events(node: &Node) -> u32
-    requires { count (tree_of node.now) ≤ 100 }
-    ensures { result ≡ open_events (tree_of node.now) }
-{
-    match node {
-        Node::Leaf(_, _) | Node::Boundary(_) => 1,
-        Node::Sequence(_, members) => open_in_sequence(members),
-        Node::Phase(_, members) => open_in_all(members),
-        Node::After(_, _) | Node::Before(_, _) => 0,
-    }
-}
-
-#[cycle(open)]
-fn open_in_all(members: &Members) -> u32
-    requires { count_all (trees_of members.now) ≤ 100 }
-    ensures { result ≡ open_in_all (trees_of members.now) }
-{
-    let mut sum = 0;
-    for node in members.nodes() {
-        sum += open_events(node);
-    }
-    sum
-}
-
-// Its Boundaries, and what doesn't stand between two of them.
-#[cycle(open)]
-fn open_in_sequence(members: &Members) -> u32
-    requires { count_all (trees_of members.now) ≤ 100 }
-    ensures { result ≡ open_in_sequence false (trees_of members.now) }
-{
-    let mut sum = 0;
-    let mut behind = false;
-    for (place, node) in members.nodes().iter().enumerate() {
-        let own = open_events(node);
-        let between = behind & has_boundary(members, place + 1);
-        sum += open_member(node, own, between);
-        behind |= is_boundary(node);
-    }
-    sum
-}
-
-// How many of a member's events are open, where it stands between two Boundaries or doesn't, by how many are otherwise.
-fn open_member(node: &Node, own: u32, between: bool) -> u32
-    requires { own ≡ open_events (tree_of node.now) }
-    ensures { result ≡ open_member (tree_of node.now) between }
-{
-    if between && !is_boundary(node) {
-        return 0;
-    }
-    own
 }

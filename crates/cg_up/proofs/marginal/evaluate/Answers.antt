@@ -1,33 +1,48 @@
-use Rattle.std.proofs.Common.{ap, sym, ◌∙◌, map, subst, arith}
+use Rattle.std.proofs.Common.{List, ap, sym, ◌∙◌, length, map, subst, arith}
 use Rattle.std.proofs.lemmas.Result.{IfOk-weaker}
-use Rattle.cg_meaning.specs.Tree.{root_of, datings_of}
+use Rattle.cg_enc.specs.Enclosure.{Enclosure}
+use Rattle.cg_meaning.specs.Tree.{Trees, count_all, root_of, datings_of}
 use Rattle.cg_meaning.specs.Scene.{scene_of}
 use Rattle.cg_meaning.specs.Posterior.{IsMarginal}
 use Rattle.cg_model.specs.Node.{trees_of}
 use Rattle.cg_like.specs.Likelihood.{weights_of}
+use Rattle.cg_part.specs.Elements.{element_of}
+use Rattle.cg_recipe.specs.Recipe.{Pass, parts_of}
 use Rattle.cg_recipe.proofs.RightLemmas.{right-on}
 use Rattle.cg_up.specs.Weighable.{AreWeighable}
 use Rattle.cg_up.specs.Curve.{rows_at}
-use Rattle.cg_up.proofs.PartLemmas.{parts-finished, parts-are, recipe-is}
+use Rattle.cg_up.specs.Pass.{IsFit, pass_of, root, rows_of}
+use Rattle.cg_up.proofs.PartLemmas.{parts-finished, recipe-is}
+use Rattle.cg_up.proofs.RootLemmas.{root_fit}
 use Rattle.cg_up.proofs.WeightLemmas.{rows-count}
 use Rattle.cg_up.proofs.marginal.evaluate.Goals as goal
 
-pub parts_of-requires-clause-each : goal.parts_of-requires-clause-each
-parts_of-requires-clause-each g c = rows-count _ c.args.model.now.top (trees_of c.top.result.now) c.in_ok-rows.rows.items c.deref.result.now c.deref.ensures.value c.top.ensures.top c.in_ok-rows.ensures.value
+pub parts_of-requires-clause-rows : goal.parts_of-requires-clause-rows
+parts_of-requires-clause-rows g c =
+    omega (arith, rows-count _ c.args.model.now.top (trees_of c.top.result.now) c.in_ok-rows.rows.items c.new-pass.result.rows.now (c.new-pass.ensures.rows ∙ c.deref.ensures.value) c.top.ensures.top c.in_ok-rows.ensures.value)
 
 pub finish-requires : goal.finish-requires
 finish-requires g c =
-    let can = parts-finished c.cells.result c.args.grid.now.cells c.args.event c.in_ok-rows.rows.items c.deref.result.now c.args.model.now.top (trees_of c.top.result.now) c.in_ok-sums.sums
-    c.cells.ensures.some c.cells.ensures.few c.cells.ensures.cells c.in_ok-rows.ensures.light c.top.ensures.limits c.requires.event c.deref.ensures.value c.top.ensures.top c.in_ok-sums.ensures.value in
+    let pass = c.new-pass.result in
+    let ts = trees_of c.top.result.now in
+    let rows = rows-count _ c.args.model.now.top ts c.in_ok-rows.rows.items pass.rows.now (c.new-pass.ensures.rows ∙ c.deref.ensures.value) c.top.ensures.top c.in_ok-rows.ensures.value in
+    let fit = subst (λ us. IsFit (length pass.rows.now) (element_of 0 (root us))) (sym c.top.ensures.top)
+    (root_fit (length pass.rows.now) c.args.model.now.top c.top.ensures.limits (omega (arith, rows, ap count_all c.top.ensures.top))) in
+    let can = parts-finished pass _ c.args.event (element_of 0 (root ts)) c.in_ok-parts.parts c.new-pass.ensures.ready fit c.in_ok-parts.ensures.value in
     record { some = can.some; few = can.few; loss = can.loss; reach = can.reach }
 
 pub returns-clause-recipe : goal.returns-clause-recipe
 returns-clause-recipe g c =
     let chronology = c.args.model.now in
+    let event = c.args.event in
+    let cells = c.cells.result in
     let scene = scene_of c.args.grid.now (rows_at c.args.curves.now c.args.curve) in
     let rows = c.in_ok-rows.ensures.value ∙ ap (λ curve. map (weights_of (scene_of c.args.grid.now curve)) (datings_of (root_of chronology))) c.curve_of.ensures in
-    let sums = parts-are c.cells.result c.args.event c.in_ok-rows.rows.items c.deref.result.now chronology.top (trees_of c.top.result.now) c.in_ok-sums.sums c.deref.ensures.value c.top.ensures.top c.in_ok-sums.ensures.value in
-    let is = recipe-is scene (root_of chronology) c.args.event c.cells.result c.in_ok-rows.rows.items c.in_ok-sums.sums c.cells.ensures.cells rows sums in
+    let parts = c.in_ok-parts.ensures.value
+    ∙ ap (λ (us : Trees). parts_of (pass_of c.new-pass.result) event (element_of 0 (root us))) c.top.ensures.top
+    ∙ ap (λ (pass : Pass). parts_of pass event (element_of 0 (root_of chronology))) c.new-pass.ensures.pass
+    ∙ ap (λ (given : List (List Enclosure)). parts_of (record { cells = cells; rows = rows_of cells given }) event (element_of 0 (root_of chronology))) c.deref.ensures.value in
+    let is = recipe-is scene (root_of chronology) event cells c.in_ok-rows.rows.items c.in_ok-parts.parts c.cells.ensures.cells rows parts in
     IfOk-weaker c.finish.result _ _ (λ marginal pairs. pairs ∙ is) c.finish.ensures.value
 
 pub returns-clause-holds : goal.returns-clause-holds
