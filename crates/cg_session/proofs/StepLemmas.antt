@@ -6,7 +6,8 @@ use Rattle.std.specs.Prelude.{OnErr}
 use Rattle.cg_meaning.specs.Curve.{Curve}
 use Rattle.cg_meaning.specs.Tree.{Name, Chronology, root_of}
 use Rattle.cg_meaning.specs.Scene.{Grid, scene_of}
-use Rattle.cg_recipe.specs.Ticks.{ticks_of}
+use Rattle.cg_part.specs.Elements.{element_of}
+use Rattle.cg_recipe.specs.Ticks.{part_ticks}
 use Rattle.cg_sharing.specs.Command as command
 use Rattle.cg_sharing.specs.Command.{Command, Line}
 use Rattle.cg_sharing.specs.Versions.{State, chronology_of}
@@ -35,7 +36,7 @@ ticks-append xs ys = sum_by-append print_ticks xs ys
 
 -- A marginal that is found takes at most the steps of its print.
 pub print_steps : (curve : Curve) (state : State) (number : ℕ) (name : Name) (version : ℕ) (grid : Grid) (chronology : Chronology) (event : ℕ) (place : Place) (old new : ℕ) → place.version ≡ Some version → place.grid ≡ Some grid → chronology ≡ chronology_of state version →
-    event_in (scene_of grid curve) name chronology ≡ Ok event → new ≤ old + grid.cells * ticks_of grid.cells (root_of chronology) → new ≤ old + ticks_in (prints_at curve state number (command.Print name) place.version place.grid)
+    event_in (scene_of grid curve) name chronology ≡ Ok event → new ≤ old + part_ticks grid.cells event (element_of 0 (root_of chronology)) → new ≤ old + ticks_in (prints_at curve state number (command.Print name) place.version place.grid)
 print_steps curve state number name version grid chronology event place old new at on text is steps =
     let same = ap (λ piece. ticks_in (prints_of (piece ∷ []))) (print_written curve state number name version grid chronology (Ok event) place at on text is) in
     let P : ℕ → Type 0 = λ ticks. new ≤ old + ticks in

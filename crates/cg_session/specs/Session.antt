@@ -70,11 +70,11 @@ pub record IsSame (old new : Session) : Type 0 where
   pub stopped : new.stopped ≡ old.stopped
   pub version : new.standing.version ≡ old.standing.version
 
--- An event of the next line is to be made, and there is room for its answer.
+-- The act of the next line is to be made, and there is room for its answer.
 pub record IsPrepared (next : Asked) (session : Session) : Type 0 where
   pub line : Line
   pub here : slice_get session.script session.done ≡ Some line
-  pub act : (place : Place) → Shows session.standing place → act_of place line.command ≡ Some (asked next.event)
+  pub act : (place : Place) → Shows session.standing place → act_of place line.command ≡ Some (asked next.act)
   pub spare : IsSpare line.command next.spare
   pub room : HasRoom session.standing.transcript 64
   pub base : vec_len session.standing.bases < vec_capacity session.standing.bases

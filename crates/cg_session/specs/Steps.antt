@@ -1,9 +1,10 @@
 -- How many steps the marginals take that a session prints.
-use Rattle.std.specs.Prelude.{◌≡◌, ℕ, ◌+◌, ◌*◌, ◌≤◌, List, [], ◌∷◌, ◌++◌, sum_by, drop, Option}
+use Rattle.std.specs.Prelude.{◌≡◌, ℕ, ◌+◌, ◌≤◌, List, [], ◌∷◌, ◌++◌, sum_by, drop, Option}
 use Rattle.cg_meaning.specs.Tree.{root_of}
 use Rattle.cg_meaning.specs.Curve.{Curve}
 use Rattle.cg_meaning.specs.Scene.{Grid}
-use Rattle.cg_recipe.specs.Ticks.{ticks_of}
+use Rattle.cg_part.specs.Elements.{element_of}
+use Rattle.cg_recipe.specs.Ticks.{part_ticks}
 use Rattle.cg_sharing.specs.Command as command
 use Rattle.cg_sharing.specs.Command.{Command, Line}
 use Rattle.cg_sharing.specs.Versions.{State}
@@ -15,9 +16,9 @@ use Rattle.cg_session.specs.declared.session.Progress.{Progress}
 use Rattle.cg_session.specs.declared.session.Progress.TheVariants.{Stopped}
 use Rattle.cg_session.specs.Session.{StandsAt}
 
--- at most so many for one: those of a pass over the tree for each cell
+-- at most so many for one: those of the tables that aren't on the way to the event, and of the contexts on it
 abbrev pub print_ticks : Print → ℕ
-print_ticks print = print.scene.grid.cells * ticks_of print.scene.grid.cells (root_of print.chronology)
+print_ticks print = part_ticks print.scene.grid.cells print.event (element_of 0 (root_of print.chronology))
 
 abbrev pub ticks_in : List Print → ℕ
 ticks_in prints = sum_by print_ticks prints

@@ -32,7 +32,7 @@ pub enum Progress {
 // An act to be made, with a spare name for its answer.
 #[derive(Drop)]
 pub(crate) struct Asked {
-    pub event: Event,
+    pub act: Event,
     pub spare: Option<Name>,
 }
 
@@ -96,10 +96,10 @@ impl Session {
     {
         while self.done < self.script.len() {
             let (line, command) = self.script.get(self.done);
-            if let Some(event) = self.standing.event(alloc, command)? {
+            if let Some(act) = self.standing.act(alloc, command)? {
                 let spare = spare_of(alloc, command)?;
                 self.standing.make_room()?;
-                return Ok(Some(Asked { event, spare }));
+                return Ok(Some(Asked { act, spare }));
             }
             self.standing.run(alloc, line, command, curves, steps)?;
             self.done += 1;
@@ -161,8 +161,8 @@ impl Session {
             return Progress::Stopped;
         }
         match self.prepare(alloc, curves, steps) {
-            Ok(Some(Asked { event, spare })) => {
-                let reply = port.event(alloc, event);
+            Ok(Some(Asked { act, spare })) => {
+                let reply = port.event(alloc, act);
                 self.settle(spare, reply)
             }
             Ok(None) => Progress::Ended,

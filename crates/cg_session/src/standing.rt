@@ -100,8 +100,8 @@ impl Standing {
     ghost use Rattle.cg_session.specs.Transcript.{HasRoom};
 
     /// The act of a command, if it makes one here.
-    pub fn event(&self, alloc: Global, command: &Command) -> Result<Option<Event>, NoMemory>
-        ensures { IfOk result (λ event. (place : Place) → Shows self.now place → option_map asked event ≡ act_of place (command_in command.now)) }
+    pub fn act(&self, alloc: Global, command: &Command) -> Result<Option<Event>, NoMemory>
+        ensures { IfOk result (λ act. (place : Place) → Shows self.now place → option_map asked act ≡ act_of place (command_in command.now)) }
     {
         match command {
             Command::Grid(_, _) => Ok(None),

@@ -14,7 +14,7 @@ event-reply-requires-clause-may g c =
     let seen = g.Q.Port.seen c.args.port.now in
     let s = c.prepare.new.self in
     let next : IsPrepared c.in-Ok-Some.field-0-0 s = rw c.in-Ok-Some.field-0-is at c.in-Ok-Some.ensures.next in
-    may_at (first_curve c.args.curves.now) seen s next.line (asked c.in-Ok-Some.field-0-0.event) (c.prepare.ensures.same.stopped ∙ c.if-self.false) (c.prepare.ensures.at seen c.if-self.false c.requires.at) next.here next.act
+    may_at (first_curve c.args.curves.now) seen s next.line (asked c.in-Ok-Some.field-0-0.act) (c.prepare.ensures.same.stopped ∙ c.if-self.false) (c.prepare.ensures.at seen c.if-self.false c.requires.at) next.here next.act
 
 pub settle-requires-clause-within : goal.settle-requires-clause-within
 settle-requires-clause-within g c =
@@ -28,7 +28,7 @@ returns-in-Ok-Some-clause-at g c =
     let s = c.prepare.new.self in
     let same = c.prepare.ensures.same in
     let next : IsPrepared c.in-Ok-Some.field-0-0 s = rw c.in-Ok-Some.field-0-is at c.in-Ok-Some.ensures.next in
-    let act = asked c.in-Ok-Some.field-0-0.event in
+    let act = asked c.in-Ok-Some.field-0-0.act in
     let G : ℕ → Type 0 = λ n. Grows n (g.Q.Port.alone c.args.port.now) act (answered c.event-reply.result) seen new in
     let grows = subst G (c.requires.seat ∙ sym same.number) c.event-reply.ensures.grows in
     (settled_at (first_curve c.args.curves.now) seen new (g.Q.Port.alone c.args.port.now) c.args.self.now s c.settle.new.self next.line act c.in-Ok-Some.field-0-0.spare c.settle.result (answered c.event-reply.result) (same.stopped ∙ c.if-self.false)
@@ -42,7 +42,7 @@ returns-in-Ok-Some-clause-came g c =
     let s = c.prepare.new.self in
     let same = c.prepare.ensures.same in
     let next : IsPrepared c.in-Ok-Some.field-0-0 s = rw c.in-Ok-Some.field-0-is at c.in-Ok-Some.ensures.next in
-    let act = asked c.in-Ok-Some.field-0-0.event in
+    let act = asked c.in-Ok-Some.field-0-0.act in
     let G : ℕ → Type 0 = λ n. Grows n (g.Q.Port.alone c.args.port.now) act (answered c.event-reply.result) seen new in
     let grows = subst G (c.requires.seat ∙ sym same.number) c.event-reply.ensures.grows in
     (settled_at (first_curve c.args.curves.now) seen new (g.Q.Port.alone c.args.port.now) c.args.self.now s c.settle.new.self next.line act c.in-Ok-Some.field-0-0.spare c.settle.result (answered c.event-reply.result) (same.stopped ∙ c.if-self.false)
@@ -120,7 +120,7 @@ returns-in-Ok-Some-clause-ticks g c = λ place stands.
     let s = c.prepare.new.self in
     let same = c.prepare.ensures.same in
     let next : IsPrepared c.in-Ok-Some.field-0-0 s = rw c.in-Ok-Some.field-0-is at c.in-Ok-Some.ensures.next in
-    let act = asked c.in-Ok-Some.field-0-0.event in
+    let act = asked c.in-Ok-Some.field-0-0.act in
     let G : ℕ → Type 0 = λ n. Grows n alone act (answered c.event-reply.result) seen new in
     let grows = subst G (c.requires.seat ∙ sym same.number) c.event-reply.ensures.grows in
     counts_settled curve seen new alone c.args.steps.now c.prepare.new.steps place s c.settle.new.self next.line act c.in-Ok-Some.field-0-0.spare c.settle.result (answered c.event-reply.result) (same.stopped ∙ c.if-self.false)

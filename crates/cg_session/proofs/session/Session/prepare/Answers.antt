@@ -22,12 +22,12 @@ loop-self-preserved g c =
       at = λ seen run start.
           let at = c.loop-self.invariant.at seen run start in
           done_next (first_curve c.args.curves.now) seen c.loop-self.self _ line (record { number = refl; script = refl; stopped = refl; version = c.in_ok-run.ensures.version }) (before.stopped ∙ run) c.get-line.ensures.line
-          (λ place shows. sym (c.in_ok-event.ensures place shows) ∙ ap (λ e. option_map asked e) c.in_default.is)
+          (λ place shows. sym (c.in_ok-act.ensures place shows) ∙ ap (λ e. option_map asked e) c.in_default.is)
           (λ place shows. c.in_ok-run.ensures.ok (state_of seen) place at.text shows) refl at;
       counts = λ seen start run was stands.
           let at = c.loop-self.invariant.at seen run was in
           counts_done (first_curve c.args.curves.now) seen c.args.steps.now c.loop-self.steps _ start c.loop-self.self _ line (record { number = refl; script = refl; stopped = refl; version = c.in_ok-run.ensures.version }) (before.stopped ∙ run)
-          c.get-line.ensures.line (λ place shows. sym (c.in_ok-event.ensures place shows) ∙ ap (λ e. option_map asked e) c.in_default.is) (λ place shows. c.in_ok-run.ensures.ok (state_of seen) place at.text shows) refl
+          c.get-line.ensures.line (λ place shows. sym (c.in_ok-act.ensures place shows) ∙ ap (λ e. option_map asked e) c.in_default.is) (λ place shows. c.in_ok-run.ensures.ok (state_of seen) place at.text shows) refl
           (λ place shows. c.in_ok-run.ensures.ticks (state_of seen) place at.text shows) (c.loop-self.invariant.counts seen start run was stands);
     }
 
@@ -37,12 +37,12 @@ returns-in-Some-clause-next g c =
     let line : Line = record { number = c.get-line.result.0; command = command_in c.get-line.result.1.now } in
     let old = c.loop-self.self.standing in
     let new = c.make_room.new.self in
-    let act : (place : Place) → Shows new place → act_of place line.command ≡ Some (asked c.in-Some.event) = λ place shows.
-    sym (c.in_ok-event.ensures place (same_shown new old place (sym room.text) (sym room.version) (sym room.grid) (sym room.bases) shows)) ∙ ap (λ e. option_map asked e) c.in-Some.is in
+    let act : (place : Place) → Shows new place → act_of place line.command ≡ Some (asked c.in-Some.act) = λ place shows.
+    sym (c.in_ok-act.ensures place (same_shown new old place (sym room.text) (sym room.version) (sym room.grid) (sym room.bases) shows)) ∙ ap (λ e. option_map asked e) c.in-Some.is in
     record { line = line; here = c.get-line.ensures.line; act = act; spare = c.in_ok-spare.ensures; room = room.line; base = room.base; few = search rules }
 
-pub returns-in_err-event-clause-cut : goal.returns-in_err-event-clause-cut
-returns-in_err-event-clause-cut g c =
+pub returns-in_err-act-clause-cut : goal.returns-in_err-act-clause-cut
+returns-in_err-act-clause-cut g c =
     on_err c.from_residual.result (λ seen place run at stands.
     let counts = c.loop-self.invariant.counts seen place run at stands in
     counts_on (first_curve c.args.curves.now) seen seen Stopped c.args.steps.now c.loop-self.steps place counts.place c.loop-self.self c.loop-self.self counts refl counts.stands)
