@@ -1,9 +1,19 @@
--- A triangular table folded with itself, and a check sum of it.
-use Rattle.std.specs.Prelude.{ℕ, zero, suc, ◌+◌, ◌-◌, ◌*◌, ◌/◌, ◌%◌, ◌^◌, pos, ◌-ℤ◌, map, fold}
+-- What the measured calls give of a triangular table and its context, and a check sum of it.
+use Rattle.std.specs.Prelude.{List, ℕ, zero, suc, ◌+◌, ◌-◌, ◌*◌, ◌/◌, ◌%◌, ◌^◌, pos, ◌-ℤ◌, map, fold, codes}
 use Rattle.std.specs.List.{range_with_len}
 use Rattle.cg_enc.specs.Enclosure.{Enclosure}
 use Rattle.cg_enc.specs.Rounding.{norm}
+use Rattle.cg_table.specs.Formulas.{then_of}
 use Rattle.cg_table.specs.Table.{Table, entry, row, start}
+use Rattle.cg_context.specs.Formulas.{back_of, into_sequence_of, root_context}
+use Rattle.cg_bench.specs.declared.call.Call.{Call}
+use Rattle.cg_bench.specs.declared.call.Call.TheVariants.{Then, Back, IntoSequence}
+
+-- the word that names a call
+abbrev pub word_of : Call → List ℕ
+word_of Then = codes "then"
+word_of Back = codes "back"
+word_of IntoSequence = codes "into_sequence"
 
 -- a check sum goes on with one more entry
 abbrev pub mixed : ℕ → Enclosure → ℕ
@@ -27,3 +37,13 @@ made place =
 -- the table of these entries
 abbrev pub made_table : ℕ → Table
 made_table cells = record { cells = cells; entries = map made (range_with_len 0 (start cells cells)) }
+
+-- the context of an item behind this table, in a Sequence that is the whole tree
+abbrev pub made_context : ℕ → Table
+made_context cells = into_sequence_of (made_table cells) (root_context cells)
+
+-- what a call gives of this table and its context
+abbrev pub called : Call → ℕ → Table
+called Then cells = then_of (made_table cells) (made_table cells)
+called Back cells = back_of (made_context cells) (made_table cells)
+called IntoSequence cells = into_sequence_of (made_table cells) (made_context cells)

@@ -1,10 +1,12 @@
-//! A triangular table folded with itself, and a check sum of what comes of it.
+//! What a call gives of a triangular table and its context, and a check sum of it.
 ghost use Rattle.std.specs.Prelude.{◌≡◌, ◌+◌, ◌-◌, ◌*◌, ◌^◌, ◌<◌, ◌≤◌, ℕ, All, IfOk, length, fold};
 ghost use Rattle.cg_enc.specs.Enclosure.{IsExponent};
-ghost use Rattle.cg_table.specs.Formulas.{then_of};
 ghost use Rattle.cg_table.specs.Table.{entry, row, start, table_reach};
-ghost use Rattle.cg_bench.specs.Fold.{check_of, made, made_table, mixed};
+ghost use Rattle.cg_context.specs.Formulas.{into_sequence_of, root_context};
+ghost use Rattle.cg_bench.specs.Fold.{called, check_of, made, made_table, mixed};
 
+use crate::call::Call;
+use cg_context::{Context, back, into_sequence, root};
 use cg_enc::Enc;
 use cg_num::NoMemory;
 use cg_table::{Steps, Tri, then};
@@ -15,29 +17,40 @@ use std::sync::ledger::{Blank, Ledger};
 /// The most cells of a table.
 pub const MOST: usize = 512;
 
-/// The check sum of the fold, with itself, of a table of this many cells whose entries are made by a rule.
-pub fn check_sum(alloc: Global, cells: usize) -> Result<u64, NoMemory>
+/// The check sum of what a call gives of a table of this many cells, whose entries are made by a rule, and its context.
+pub fn check_sum(alloc: Global, call: Call, cells: usize) -> Result<u64, NoMemory>
     requires { cells ≤ 512 }
-    ensures { IfOk result (λ sum. sum ≡ check_of (then_of (made_table cells) (made_table cells)) cells) }
+    ensures { IfOk result (λ sum. sum ≡ check_of (called call cells) cells) }
 {
-    let folded = folded::<Brand>(alloc, cells, Blank::new(1))?;
-    let mut sum = 0;
-    for a in 0..cells {
-        sum = mix(sum, &folded, a);
-    }
-    Ok(sum)
+    counted::<Brand>(alloc, call, cells, Blank::new(1))
 }
 
-/// The table folded with itself. Nobody asks for the number of its products.
-fn folded<L: Ledger>(alloc: Global, cells: usize, blank: Blank) -> Result<Tri, NoMemory>
+/// The same, with its products counted, for which nobody asks.
+fn counted<L: Ledger>(
+    alloc: Global,
+    call: Call,
+    cells: usize,
+    blank: Blank,
+) -> Result<u64, NoMemory>
     requires few { cells ≤ 512 }
     requires name { blank.name ≡ L.name }
     requires parts { blank.parts ≡ L.parts }
     requires some { 0 < L.parts }
-    ensures { IfOk result (λ t. t ≡ then_of (made_table cells) (made_table cells)) }
+    ensures { IfOk result (λ sum. sum ≡ check_of (called call cells) cells) }
 {
+    let steps = &mut Steps::<L>::open(blank);
     let made = table(alloc, cells)?;
-    then(&made, &made, &mut Steps::<L>::open(blank))
+    match call {
+        Call::Then => Ok(check(&then(&made, &made, steps)?)),
+        Call::Back => {
+            let context = context(&made, steps)?;
+            Ok(check(back(&context, &made, steps)?.table()))
+        }
+        Call::IntoSequence => {
+            let context = context(&made, steps)?;
+            Ok(check(into_sequence(&made, &context, steps)?.table()))
+        }
+    }
 }
 
 /// A table of entries that are made by a rule.
@@ -51,6 +64,17 @@ fn table(alloc: Global, cells: usize) -> Result<Tri, NoMemory>
         entries.push(made(place as u64))?;
     }
     Ok(Tri::of_entries(cells, entries))
+}
+
+/// The context of an item behind this table, in a Sequence that is the whole tree.
+fn context<L: Ledger>(made: &Tri, steps: &mut Steps<L>) -> Result<Context, NoMemory>
+    requires few { made.now.cells ≤ 512 }
+    requires reach { table_reach made.now ≤ 1 }
+    ensures value { IfOk result (λ x. x ≡ into_sequence_of made.now (root_context made.now.cells)) }
+    ensures reach { IfOk result (λ x. table_reach x ≤ 3) }
+{
+    let tree = root(made.allocator(), made.cells())?;
+    into_sequence(made, &tree, steps)
 }
 
 /// The entry at a place, by a rule that spreads its digits.
@@ -70,6 +94,17 @@ fn start(cells: usize) -> usize
     ensures { result ≡ start cells cells }
 {
     cells * (cells + 1) / 2
+}
+
+/// The check sum of all rows of a table.
+fn check(t: &Tri) -> u64
+    ensures { result ≡ check_of t.now t.now.cells }
+{
+    let mut sum = 0;
+    for a in 0..t.cells() {
+        sum = mix(sum, t, a);
+    }
+    sum
 }
 
 /// A check sum, going on with each entry of a row.
