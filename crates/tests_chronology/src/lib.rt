@@ -1,4 +1,4 @@
-//! Tests of models and grids, on models that are read from texts.
+//! Tests of models, grids and codes, on models that are read from texts.
 #![tactic(auto)]
 
 #[cfg(test)]

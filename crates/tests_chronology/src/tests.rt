@@ -1,4 +1,5 @@
 //! One file for each subject.
+mod codes;
 mod grids;
 mod limits;
 mod names;

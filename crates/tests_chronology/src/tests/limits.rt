@@ -58,13 +58,25 @@ static LIMITS: [(u32, u32, u32, Option<Limit>); 6] = [
     (100, 61, 17, Some(Limit::Groups)),
 ];
 
-// the limit that a tree of so many events and groups passes, with a leaf at this depth
-fn limit_of(alloc: Global, events: u32, groups: u32, depth: u32) -> Result<Option<Limit>, Fail> {
+// so many events and groups, with a leaf at this depth
+fn top_of(alloc: Global, events: u32, groups: u32, depth: u32) -> Result<Members, Fail>
+    ensures placed { IfOk result (λ members. AreInPlace Phase (trees_of members)) }
+    ensures ranged { IfOk result (λ members. AreInRange (trees_of members)) }
+{
     // the leaf brings one event and the groups around it
     let deep = leaf_at(alloc, depth)?;
     let wide = with_leaves(alloc, deep, events.saturating_sub(1))?;
-    let top = with_groups(alloc, wide, groups.saturating_sub(depth).saturating_add(1))?;
-    Ok(ModelTree::new(None, top).err())
+    with_groups(alloc, wide, groups.saturating_sub(depth).saturating_add(1))
+}
+
+// the limit that such a tree passes
+fn limit_of(alloc: Global, events: u32, groups: u32, depth: u32) -> Result<Option<Limit>, Fail> {
+    Ok(ModelTree::new(None, top_of(alloc, events, groups, depth)?).err())
+}
+
+/// A model at all limits: a leaf at depth 16 in Phases, 99 leaves, and 45 After groups.
+pub(crate) fn widest(alloc: Global) -> Result<ModelTree, Fail> {
+    Ok(ModelTree::new(None, top_of(alloc, 100, 60, 16)?)?)
 }
 
 #[test]
