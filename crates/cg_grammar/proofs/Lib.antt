@@ -1,0 +1,13 @@
+pub mod RunLemmas
+pub mod WordLemmas
+pub mod StandsLemmas
+pub mod BlockStandsLemmas
+pub mod ArgumentStandsLemmas
+pub mod CallStandsLemmas
+pub mod OptionStandsLemmas
+pub mod StepStandsLemmas
+pub mod FirstLemmas
+pub mod EndLemmas
+pub mod DecidedLemmas
+pub mod StatementLemmas
+pub mod LimitLemmas
