@@ -11,8 +11,8 @@ const ONE: Ends = (HALF, HALF, -62);
 
 const THIRD: Ends = (0x5555_5555_5555_5555, 0x5555_5555_5555_5556, -64);
 
-// The greatest loss that a row may have: 2^41 - 1.
-const LOSS: u64 = 0x1ff_ffff_ffff;
+/// The greatest loss that a row may have: 2^41 - 1.
+pub(crate) const LOSS: u64 = 0x1ff_ffff_ffff;
 
 fn finished<R: AllocGlobal + Abort>(rt: &R, entries: &[Ends]) -> Result<Marginal, Fail> {
     let mut row = Row::new(rt.alloc());

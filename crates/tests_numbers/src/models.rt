@@ -1,16 +1,16 @@
 ghost use Rattle.std.specs.Prelude.{◌≡◌, ◌<◌};
 
 mod cases;
-mod plan;
-mod plans;
+mod contexts;
+mod pinned;
+mod scene;
 
-use crate::grids::grid;
 use cases::{Case, GROUPS_IN_SPANS, ONE_SIDED_GROUPS, ORDER, SEVERAL_SPANS, SPANS};
-use cg_curve::Curves;
 use cg_marginal::Marginal;
 use cg_table::Steps;
-use cg_up::evaluate;
-use plan::model_of;
+use contexts::{CONTEXTS, Context};
+use pinned::pinned_marginal;
+use scene::{marginal, read_scene};
 use std::alloc::Global;
 use std::marker::Brand;
 use std::process::Abort;
@@ -82,14 +82,85 @@ fn assert_case<L: Ledger, R: Abort>(
     case: &Case,
     steps: &mut Steps<L>,
 ) -> Result<(), Fail> {
-    let (name, top, years, marginals) = *case;
-    let model = model_of(alloc, top)?;
-    let grid = grid(years)?;
-    let curves = Curves::new(alloc);
+    let (name, text, years, marginals) = *case;
+    let scene = read_scene(alloc, text, "", years)?;
     for (event, whole, parts) in marginals {
-        assert!(rt; *event < model.events());
-        let marginal = evaluate(alloc, &model, *event, &grid, &curves, 0, steps)?;
+        let marginal = marginal(alloc, &scene, *event, steps)?;
         assert_parts(rt, &marginal, parts, *whole, name);
     }
     Ok(())
+}
+
+#[test]
+fn all_events(rt: HostRuntime) -> Result<(), Fail> {
+    assert_contexts::<Brand, _>(&rt, rt.alloc(), Blank::new(1))
+}
+
+fn assert_contexts<L: Ledger, R: Abort>(rt: &R, alloc: Global, blank: Blank) -> Result<(), Fail>
+    requires name { blank.name ≡ L.name }
+    requires parts { blank.parts ≡ L.parts }
+    requires some { 0 < L.parts }
+{
+    let mut steps = Steps::<L>::open(blank);
+    for case in &CONTEXTS {
+        assert_context(rt, alloc, case, &mut steps)?;
+    }
+    Ok(())
+}
+
+// Each marginal meets that of one pass for each cell, and is the recipe's own.
+fn assert_context<L: Ledger, R: Abort>(
+    rt: &R,
+    alloc: Global,
+    case: &Context,
+    steps: &mut Steps<L>,
+) -> Result<(), Fail> {
+    let (name, text, curve, years, table, lower, upper) = *case;
+    let scene = read_scene(alloc, text, curve, years)?;
+    let events = scene.model.events();
+    assert!(rt;
+        lower.len() == events as usize && upper.len() == events as usize,
+        "{name}"
+    );
+    for event in 0..events {
+        let marginal = marginal(alloc, &scene, event, steps)?;
+        let held = pinned_marginal(alloc, &scene, event, table, steps)?;
+        assert_meet(rt, &marginal, &held, name, event);
+        let (lower, upper) = (lower[event as usize], upper[event as usize]);
+        assert_ends(rt, &marginal, (lower, upper), name, event);
+    }
+    Ok(())
+}
+
+// At each cell a number lies between the ends of both.
+fn assert_meet(rt: &impl Abort, a: &Marginal, b: &Marginal, name: &str, event: u32) {
+    assert!(rt; a.len() == b.len(), "{name}, event {event}");
+    for cell in 0..a.len() {
+        let (a, b) = (a.pair(cell), b.pair(cell));
+        assert!(rt;
+            a.0 <= b.1 && b.0 <= a.1,
+            "{name}, event {event}, cell {cell}"
+        );
+    }
+}
+
+fn assert_ends(
+    rt: &impl Abort,
+    marginal: &Marginal,
+    (lower, upper): (&[u32], &[u32]),
+    name: &str,
+    event: u32,
+) {
+    let cells = marginal.len();
+    assert!(rt;
+        lower.len() == cells && upper.len() == cells,
+        "{name}, event {event}"
+    );
+    for cell in 0..cells {
+        assert_eq!(rt;
+            marginal.pair(cell),
+            (lower[cell], upper[cell]),
+            "{name}, event {event}, cell {cell}"
+        );
+    }
 }

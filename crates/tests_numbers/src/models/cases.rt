@@ -1,33 +1,36 @@
 //! Cases worked out by listing every dating, by `cases/listing_cases.py`.
-use super::plan::Plan;
-use super::plans::*;
 
-/// A name, the statements of a model, and the older and the younger year of the grid. For some events what part of the datings
-/// has it at each cell: a number, and so many of it for each. It is 0 where no dating is allowed.
+/// A name, the text of a model, and the older and the younger year of the grid. For some events what part of the
+/// datings has it at each cell: a number, and so many of it for each. It is 0 where no dating is allowed.
 pub(super) type Case = (
     &'static str,
-    &'static [Plan<'static>],
+    &'static str,
     (i64, i64),
     &'static [(u32, u32, &'static [u32])],
 );
 
 pub(super) static ORDER: [Case; 7] = [
-    ("one alone", ONE_ALONE, (2_001, 2_000), &[(0, 2, &[1, 1])]),
     (
         "one alone",
-        ONE_ALONE,
+        r#"Date("a");"#,
+        (2_001, 2_000),
+        &[(0, 2, &[1, 1])],
+    ),
+    (
+        "one alone",
+        r#"Date("a");"#,
         (2_002, 2_000),
         &[(0, 3, &[1, 1, 1])],
     ),
     (
         "two side by side",
-        TWO_SIDE_BY_SIDE,
+        r#"Date("a");Date("b");"#,
         (2_002, 2_000),
         &[(1, 3, &[1, 1, 1])],
     ),
     (
         "a Phase of two in a Sequence",
-        A_PHASE_OF_TWO_IN_A_SEQUENCE,
+        r#"Sequence(){Date("a");Phase(){Date("b");Date("c");};Date("d");};"#,
         (2_002, 2_000),
         &[
             (0, 20, &[14, 5, 1]),
@@ -38,7 +41,7 @@ pub(super) static ORDER: [Case; 7] = [
     ),
     (
         "a Sequence in a Phase in a Sequence",
-        A_SEQUENCE_IN_A_PHASE_IN_A_SEQUENCE,
+        r#"Sequence(){Date("a");Phase(){Sequence(){Date("b");Date("c");};Date("d");};Date("e");};"#,
         (2_002, 2_000),
         &[
             (1, 33, &[14, 13, 6]),
@@ -48,13 +51,13 @@ pub(super) static ORDER: [Case; 7] = [
     ),
     (
         "groups without members",
-        GROUPS_WITHOUT_MEMBERS,
+        r#"Sequence(){Date("a");Phase(){};After(){};Before(){};Sequence(){};Date("b");};Phase(){};"#,
         (2_002, 2_000),
         &[(0, 6, &[3, 2, 1]), (1, 6, &[1, 2, 3])],
     ),
     (
         "exact years in the wrong order",
-        EXACT_YEARS_IN_THE_WRONG_ORDER,
+        r#"Sequence(){C_Date("a",-51);C_Date("b",-52);};Date("c");"#,
         (2_001, 2_000),
         &[(2, 0, &[])],
     ),
@@ -63,19 +66,19 @@ pub(super) static ORDER: [Case; 7] = [
 pub(super) static ONE_SIDED_GROUPS: [Case; 4] = [
     (
         "an After group",
-        AN_AFTER_GROUP,
+        r#"Sequence(){Date("a");After(){Date("b");};Date("c");};"#,
         (2_001, 2_000),
         &[(0, 5, &[3, 2]), (1, 5, &[3, 2]), (2, 5, &[1, 4])],
     ),
     (
         "a Before group",
-        A_BEFORE_GROUP,
+        r#"Sequence(){Date("a");Before(){Date("b");};Date("c");};"#,
         (2_001, 2_000),
         &[(0, 5, &[4, 1]), (1, 5, &[2, 3]), (2, 5, &[2, 3])],
     ),
     (
         "an After and a Before group of two",
-        AN_AFTER_AND_A_BEFORE_GROUP_OF_TWO,
+        r#"Sequence(){Date("a");After(){Date("b");Date("c");};Before(){Date("d");Date("e");};Date("f");};"#,
         (2_002, 2_000),
         &[
             (0, 102, &[56, 37, 9]),
@@ -86,7 +89,7 @@ pub(super) static ONE_SIDED_GROUPS: [Case; 4] = [
     ),
     (
         "an After group first and a Before group last",
-        AN_AFTER_GROUP_FIRST_AND_A_BEFORE_GROUP_LAST,
+        r#"Sequence(){After(){Date("a");};Date("b");Before(){Date("c");};};"#,
         (2_002, 2_000),
         &[
             (0, 10, &[6, 3, 1]),
@@ -99,19 +102,19 @@ pub(super) static ONE_SIDED_GROUPS: [Case; 4] = [
 pub(super) static SPANS: [Case; 6] = [
     (
         "two Boundaries",
-        TWO_BOUNDARIES,
+        r#"Sequence(){Boundary("a");Date("b");Boundary("c");};"#,
         (2_001, 2_000),
         &[(0, 3, &[2, 1]), (1, 2, &[1, 1]), (2, 3, &[1, 2])],
     ),
     (
         "two Boundaries alone",
-        TWO_BOUNDARIES_ALONE,
+        r#"Sequence(){Boundary("a");Boundary("b");};"#,
         (2_002, 2_000),
         &[(0, 6, &[3, 2, 1]), (1, 6, &[1, 2, 3])],
     ),
     (
         "one Boundary alone",
-        ONE_BOUNDARY_ALONE,
+        r#"Sequence(){Date("a");Boundary("b");Date("c");};"#,
         (2_002, 2_000),
         &[
             (0, 10, &[6, 3, 1]),
@@ -121,7 +124,7 @@ pub(super) static SPANS: [Case; 6] = [
     ),
     (
         "dates around two Boundaries",
-        DATES_AROUND_TWO_BOUNDARIES,
+        r#"Sequence(){Date("a");Boundary("b");Date("c");Date("d");Boundary("e");Date("f");};"#,
         (2_002, 2_000),
         &[
             (0, 164, &[107, 45, 12]),
@@ -133,7 +136,7 @@ pub(super) static SPANS: [Case; 6] = [
     ),
     (
         "nothing in a span",
-        NOTHING_IN_A_SPAN,
+        r#"Sequence(){Boundary("a");Phase(){};Boundary("b");Date("c");};"#,
         (2_002, 2_000),
         &[
             (0, 10, &[6, 3, 1]),
@@ -143,7 +146,7 @@ pub(super) static SPANS: [Case; 6] = [
     ),
     (
         "an exact year in a span",
-        AN_EXACT_YEAR_IN_A_SPAN,
+        r#"Sequence(){Boundary("a");C_Date("b",-52);Date("c");Boundary("d");};"#,
         (2_002, 2_000),
         &[
             (0, 71, &[17, 54, 0]),
@@ -156,7 +159,7 @@ pub(super) static SPANS: [Case; 6] = [
 pub(super) static SEVERAL_SPANS: [Case; 4] = [
     (
         "three Boundaries",
-        THREE_BOUNDARIES,
+        r#"Sequence(){Boundary("a");Date("b");Boundary("c");Date("d");Date("e");Boundary("f");};"#,
         (2_002, 2_000),
         &[
             (0, 107, &[62, 33, 12]),
@@ -168,7 +171,7 @@ pub(super) static SEVERAL_SPANS: [Case; 4] = [
     ),
     (
         "a date before a span and nothing in the next",
-        A_DATE_BEFORE_A_SPAN_AND_NOTHING_IN_THE_NEXT,
+        r#"Sequence(){Date("a");Boundary("b");Date("c");Boundary("d");Boundary("e");};"#,
         (2_003, 2_000),
         &[
             (0, 35, &[20, 10, 4, 1]),
@@ -179,13 +182,16 @@ pub(super) static SEVERAL_SPANS: [Case; 4] = [
     ),
     (
         "spans side by side",
-        SPANS_SIDE_BY_SIDE,
+        concat!(
+            r#"Phase(){Sequence(){Boundary("a");Date("b");Boundary("c");};"#,
+            r#"Sequence(){Boundary("d");Date("e");Date("f");Boundary("g");};};"#,
+        ),
         (2_001, 2_000),
         &[(0, 3, &[2, 1]), (4, 11, &[6, 5]), (6, 11, &[4, 7])],
     ),
     (
         "nested spans",
-        NESTED_SPANS,
+        r#"Sequence(){Boundary("a");Sequence(){Boundary("b");Date("c");Boundary("d");};Boundary("e");};"#,
         (2_001, 2_000),
         &[(0, 11, &[7, 4]), (1, 11, &[6, 5]), (2, 2, &[1, 1])],
     ),
@@ -194,7 +200,10 @@ pub(super) static SEVERAL_SPANS: [Case; 4] = [
 pub(super) static GROUPS_IN_SPANS: [Case; 4] = [
     (
         "a span in a Phase in a span",
-        A_SPAN_IN_A_PHASE_IN_A_SPAN,
+        concat!(
+            r#"Sequence(){Boundary("a");Phase(){Sequence(){Boundary("b");"#,
+            r#"Date("c");Boundary("d");};Date("e");};Boundary("f");};"#,
+        ),
         (2_002, 2_000),
         &[
             (0, 62, &[29, 21, 12]),
@@ -206,7 +215,7 @@ pub(super) static GROUPS_IN_SPANS: [Case; 4] = [
     ),
     (
         "a Boundary of a nested Sequence",
-        A_BOUNDARY_OF_A_NESTED_SEQUENCE,
+        r#"Sequence(){Boundary("a");Sequence(){Date("b");Boundary("c");Date("d");};Boundary("e");};"#,
         (2_002, 2_000),
         &[
             (0, 236, &[101, 81, 54]),
@@ -218,7 +227,7 @@ pub(super) static GROUPS_IN_SPANS: [Case; 4] = [
     ),
     (
         "an After and a Before group in a span",
-        AN_AFTER_AND_A_BEFORE_GROUP_IN_A_SPAN,
+        r#"Sequence(){Boundary("a");After(){Date("b");};Date("c");Before(){Date("d");};Boundary("e");};"#,
         (2_002, 2_000),
         &[
             (0, 122, &[59, 45, 18]),
@@ -230,7 +239,10 @@ pub(super) static GROUPS_IN_SPANS: [Case; 4] = [
     ),
     (
         "a span in an After group in a span",
-        A_SPAN_IN_AN_AFTER_GROUP_IN_A_SPAN,
+        concat!(
+            r#"Sequence(){Boundary("a");After(){Sequence(){Boundary("b");"#,
+            r#"Date("c");Boundary("d");};Date("e");};Boundary("f");};"#,
+        ),
         (2_001, 2_000),
         &[
             (0, 13, &[7, 6]),

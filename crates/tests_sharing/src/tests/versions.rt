@@ -1,4 +1,6 @@
 //! Versions of two models.
+ghost use Rattle.std.specs.Prelude.{◌≡◌, All, IfOk, codes, length};
+
 use crate::tests::texts::{change, model, name};
 use cg_edit::EditFault;
 use cg_versions::{CommitFault, StartModels, TakeFault, Versions};
@@ -9,22 +11,42 @@ const TWO: &str = "Phase(\"p\"){Date(\"x\");Date(\"x\");};";
 
 const FIVE: &str = "Phase(\"p\"){Date(\"x\");Date(\"x\");Date(\"x\");Date(\"x\");Date(\"x\");};";
 
-/// The model `old` of two events, and the model `new` of five.
-fn two_models(alloc: Global) -> Result<Versions, Fail> {
+/// The model `old` of two events.
+fn one_model(alloc: Global) -> Result<StartModels, Fail>
+    ensures count { IfOk result (λ models. length models ≡ 1) }
+    ensures names { IfOk result (λ models. All (λ model. model.name ≡ codes "old") models) }
+{
     let mut models = StartModels::new(alloc);
     models.push(name(alloc, "old")?, model(alloc, TWO)?)?;
+    Ok(models)
+}
+
+/// That, and the model `new` of five.
+fn two_models(alloc: Global) -> Result<Versions, Fail> {
+    let mut models = one_model(alloc)?;
     models.push(name(alloc, "new")?, model(alloc, FIVE)?)?;
     Ok(Versions::new(alloc, models)?)
 }
 
-/// The same once version 2 is made from version 1.
+/// The number of the version that a change of another makes, and how many events it has.
+fn change_of(
+    alloc: Global,
+    versions: &mut Versions,
+    number: u32,
+    line: &str,
+) -> Result<Result<(u32, u32), EditFault>, Fail> {
+    let edit = change(alloc, line)?;
+    if number >= versions.count() {
+        return Err("no such version".into());
+    }
+    let made = versions.change(alloc, number, &edit);
+    Ok(made.map(|(number, tree)| (number, tree.events())))
+}
+
+/// Two models, and version 2, which is made from version 1.
 fn three_versions(alloc: Global) -> Result<Versions, Fail> {
     let mut versions = two_models(alloc)?;
-    if versions.count() != 2 {
-        return Err("two models, and not two versions".into());
-    }
-    let addition = change(alloc, "add \"p\" Date(\"N\");")?;
-    versions.change(alloc, 1, &addition)?;
+    change_of(alloc, &mut versions, 1, "add \"p\" Date(\"N\");")??;
     Ok(versions)
 }
 
@@ -89,10 +111,7 @@ static CHANGES: [(&str, Result<(u32, u32), EditFault>, u32); 3] = [
 fn changes(rt: HostRuntime) -> Result<(), Fail> {
     let mut versions = two_models(rt.alloc())?;
     for (line, want, count) in &CHANGES {
-        let edit = change(rt.alloc(), line)?;
-        assert!(rt; versions.count() > 0);
-        let made = versions.change(rt.alloc(), 0, &edit);
-        let made = made.map(|(number, tree)| (number, tree.events()));
+        let made = change_of(rt.alloc(), &mut versions, 0, line)?;
         assert_eq!(rt; made, *want, "{line}");
         assert_eq!(rt; versions.count(), *count, "{line}");
         assert_eq!(rt; versions.take(0)?.events(), 2, "{line}");
