@@ -61,24 +61,30 @@ def pairs_of(node, number, outer):
     return pairs
 
 
-def sums_of(top, older, younger, event):
-    """The sum of the weights of all datings with the event at each cell."""
+def sums_with(top, rows, event):
+    """The sum of the weights of all datings with the event at each cell, where each event has a row of weights."""
     root = ("Phase", top)
-    cells = older - younger + 1
+    cells = len(rows[event])
     events, pairs = events_of(root), pairs_of(root, 0, None)
     order = [(i, j) for i, (p, _) in enumerate(events) for j, (q, _) in enumerate(events) if is_not_later(p, q)]
     sums = [Fraction(0)] * cells
-    for dating in product(range(cells), repeat=len(events)):
+    for dating in product(*([cell for cell in range(cells) if row[cell]] for row in rows)):
         if any(dating[i] > dating[j] for i, j in order):
             continue
-        if any(year is not None and older - cell != year for (_, year), cell in zip(events, dating)):
-            continue
         weight = Fraction(1)
+        for row, cell in zip(rows, dating):
+            weight *= row[cell]
         for pair in pairs:
             if pair is not None:
                 weight /= dating[pair[1]] - dating[pair[0]] + 1
         sums[dating[event]] += weight
     return sums
+
+
+def sums_of(top, older, younger, event):
+    """The same where no dating has an error: each event weighs 1 where it may be."""
+    years = range(older, younger - 1, -1)
+    return sums_with(top, [[int(exact in (None, year)) for year in years] for _, exact in events_of(("Phase", top))], event)
 
 
 TWO, THREE, FOUR = (2001, 2000), (2002, 2000), (2003, 2000)
