@@ -1,0 +1,9 @@
+pub mod MapLemmas
+pub mod RoomLemmas
+pub mod ChangeLemmas
+pub mod FoundLemmas
+pub mod PlaceLemmas
+pub mod ViewLemmas
+pub mod StartLemmas
+pub mod OnceLemmas
+pub mod OwnerLemmas
