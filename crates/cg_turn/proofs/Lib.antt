@@ -1,0 +1,15 @@
+pub mod ListLemmas
+pub mod LogLemmas
+pub mod PhaseLemmas
+pub mod ViewLemmas
+pub mod RuleLemmas
+pub mod DrawLemmas
+pub mod LookLemmas
+pub mod LoadLemmas
+pub mod StoreLemmas
+pub mod PassLemmas
+pub mod SplitLemmas
+pub mod JoinLemmas
+pub mod EndLemmas
+pub mod SeatListLemmas
+pub mod StayLemmas
