@@ -302,6 +302,20 @@ def repeated_row(row):
     return row[:6] + [counted("".join(row[i] * row[i + 1] for i in (0, 2, 4)).encode())]
 
 
+def beginnings():
+    """Prints of how many rows of the table of beginnings the first length and the value are those of the rules."""
+    source = open("../crates/tests_cql/src/beginnings.rt").read()
+    body = re.search(r'static MODEL: &str = "((?:[^"\\]|\\.)*)";', source, re.DOTALL)[1]
+    data = literal(re.sub(r"\\x(\w\w)", lambda m: chr(int(m[1], 16)), re.sub(r"\\\n", "", body))).encode()
+    rows = [[int(n), said] for n, said in re.findall(r'    \((\d+), "([^"]*)"\),', source)]
+    want = []
+    for n in range(len(data) + 1):
+        value = counted(data[:n])
+        if not want or want[-1][1] != value:
+            want.append([n, value])
+    print(f"beginnings BEGINNINGS: {sum(row in want for row in rows)} of {len(want)}")
+
+
 if __name__ == "__main__":
     for name in ("TOKENS", "SYNTAX", "COMMANDS", "OPTIONS", "PLACES"):
         compare("faults", name, file_row)
@@ -312,3 +326,4 @@ if __name__ == "__main__":
         compare("statements", name, lambda row: file_row(row, True))
     for name in ("NAMES", "LIMITS"):
         compare("limits", name, repeated_row)
+    beginnings()

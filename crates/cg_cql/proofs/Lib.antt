@@ -1,3 +1,4 @@
 pub mod NameLemmas
 pub mod ReaderLemmas
 pub mod LoopLemmas
+pub mod CurveLineLemmas

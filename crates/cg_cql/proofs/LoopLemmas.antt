@@ -44,16 +44,16 @@ begun-follows base bytes line rest s l r e =
     (subst (λ (x : List ℕ). Follows base bytes 1 x 1 s) (sym r) (subst (λ (x : State). Follows base bytes 1 bytes 1 x) (sym e) (follows-begin base bytes)))
 
 -- the next piece
-record Next (line : ℕ) (rest : List ℕ) (others : List Placed) : Type 0 where
-  at : Placed
-  more : List Placed
-  whole : others ≡ at ∷ more
-  kind : at.kind ≡ (cut rest).kind
-  line_is : at.line ≡ line
-  after : AreOthers (is_last at.kind) more (AreCut (line_after line rest) (behind rest) more)
+pub record Next (line : ℕ) (rest : List ℕ) (others : List Placed) : Type 0 where
+  pub at : Placed
+  pub more : List Placed
+  pub whole : others ≡ at ∷ more
+  pub kind : at.kind ≡ (cut rest).kind
+  pub line_is : at.line ≡ line
+  pub after : AreOthers (is_last at.kind) more (AreCut (line_after line rest) (behind rest) more)
 
 -- the next piece of some
-next_of : (line : ℕ) (rest : List ℕ) (others : List Placed) → AreCut line rest others → Next line rest others
+pub next_of : (line : ℕ) (rest : List ℕ) (others : List Placed) → AreCut line rest others → Next line rest others
 next_of line rest [] h = absurd h
 next_of line rest (t ∷ us) h = record { at = t; more = us; whole = refl; kind = h.0; line_is = h.1; after = h.2 }
 
@@ -201,8 +201,8 @@ pub follows-sound : (base : Base) (bytes : List ℕ) (line : ℕ) (rest : List �
 follows-sound base bytes line rest before s b f = sound_at s.part s (kinds f.front) (run-stands (kinds f.front) [] (begun base) s b f.so_far)
 
 -- fewer bytes stand behind a piece that is not the last
-pub moves-on : (s s' : State) (k : Kind) (rest : List ℕ) → k ≡ (cut rest).kind → is_last k ≡ false → length (behind rest) < length rest
-moves-on s s' k rest e h = behind-shorter rest (ap is_last (sym e) ∙ h)
+pub piece-shorter : (rest : List ℕ) (k : Kind) → k ≡ (cut rest).kind → is_last k ≡ false → (after : List ℕ) → after ≡ behind rest → length after < length rest
+piece-shorter rest k e h after ae = rw ae (behind-shorter rest (ap is_last (sym e) ∙ h))
 
 -- the same from what the lexer tells
 pub gap-on : (base : Base) (bytes : List ℕ) (line : ℕ) (rest : List ℕ) (before : ℕ) (s : State) (k : Kind) → Follows base bytes line rest before s → k ≡ (cut rest).kind → is_gap k ≡ true

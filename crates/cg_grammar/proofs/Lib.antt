@@ -11,3 +11,5 @@ pub mod EndLemmas
 pub mod DecidedLemmas
 pub mod StatementLemmas
 pub mod LimitLemmas
+pub mod CurveLineLemmas
+pub mod WorkedCases

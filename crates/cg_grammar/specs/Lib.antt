@@ -5,4 +5,5 @@ pub mod Done
 pub mod Grammar
 pub mod Steps
 pub mod Text
+pub mod CurveLine
 pub mod View

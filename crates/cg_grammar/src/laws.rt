@@ -1,3 +1,4 @@
+ghost use Rattle.cg_grammar.specs.CurveLine.{EachHasOneCurveLine};
 ghost use Rattle.cg_grammar.specs.Text.{EachIsDecided, EachStatementIsDecided, EachSpelledIsModel, EachStatementIsWithinLimits};
 
 /// The law that each list of bytes spells one model, or fails at one place by one cause. What stands before that place
@@ -19,4 +20,10 @@ pub fn each_spelled_chronology_is_a_model()
 /// The law that a statement which stands alone is within the limits of a model, in place and in range. Does nothing.
 pub fn each_spelled_statement_is_within_limits()
     ensures { EachStatementIsWithinLimits }
+{}
+
+/// The law that a file names its curve on one line or on none, and that the name there is that of the curve of the
+/// chronology which it spells. Does nothing.
+pub fn each_file_has_one_curve_line()
+    ensures { EachHasOneCurveLine }
 {}

@@ -20,7 +20,7 @@ pub use arguments::{
 pub use command::{Base, Command, Setting};
 pub use fault::{CqlCause, CqlFault, CqlLimit, Refusal};
 pub use laws::{
-    each_file_is_decided, each_spelled_chronology_is_a_model,
+    each_file_has_one_curve_line, each_file_is_decided, each_spelled_chronology_is_a_model,
     each_spelled_statement_is_within_limits, each_statement_is_decided,
 };
 pub use place::{barred_at, curve_limit, is_over_at};

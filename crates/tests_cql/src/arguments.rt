@@ -3,7 +3,7 @@ use crate::shown::fault_of;
 use std::test::Fail;
 
 /// Arguments that do not fit.
-static ARGUMENTS: [(&str, u32, &str); 43] = [
+static ARGUMENTS: [(&str, u32, &str); 45] = [
     ("Date(5);", 1, "argument"),
     ("Date(,);", 1, "argument"),
     ("Date(\"a\",\"b\");", 1, "argument"),
@@ -26,9 +26,11 @@ static ARGUMENTS: [(&str, u32, &str); 43] = [
     ("C_Date(\"a\"\n5);", 2, "argument"),
     ("C_Date(\"=a\",5);", 1, "argument"),
     ("C_Date(0);", 1, "argument"),
+    ("C_Date(-0);", 1, "argument"),
     ("C_Date(0.5);", 1, "argument"),
     ("C_Date(-58052);", 1, "argument"),
     ("C_Date(2951);", 1, "argument"),
+    ("C_Date(4294967297);", 1, "argument"),
     ("C_Date(1_000);", 1, "argument"),
     ("C_Date(5,);", 1, "argument"),
     ("C_Date(5,0.5);", 1, "argument"),

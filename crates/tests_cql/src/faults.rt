@@ -52,7 +52,7 @@ fn what_is_no_token(rt: HostRuntime) -> Result<(), Fail> {
 }
 
 /// Tokens that do not fit outside the parentheses, and ends inside them.
-static SYNTAX: [(&str, u32, &str); 43] = [
+static SYNTAX: [(&str, u32, &str); 44] = [
     ("Date", 1, "syntax"),
     ("Date(", 1, "syntax"),
     ("Date(\"A\"", 1, "syntax"),
@@ -67,6 +67,7 @@ static SYNTAX: [(&str, u32, &str); 43] = [
     ("Sequence(){}}", 1, "syntax"),
     ("Sequence(){};;", 1, "syntax"),
     ("Sequence(){;};", 1, "syntax"),
+    ("Sequence(){Date()};", 1, "syntax"),
     ("Date(){};", 1, "syntax"),
     ("Sequence();", 1, "syntax"),
     ("Plot();", 1, "syntax"),

@@ -4,7 +4,11 @@
 #[cfg(test)]
 mod arguments;
 #[cfg(test)]
+mod beginnings;
+#[cfg(test)]
 mod commands;
+#[cfg(test)]
+mod curves;
 #[cfg(test)]
 mod faults;
 #[cfg(test)]

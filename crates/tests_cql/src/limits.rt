@@ -130,7 +130,7 @@ fn names_of_120_bytes(rt: HostRuntime) -> Result<(), Fail> {
             (*third, back),
         )?;
         assert_eq!(rt;
-            counted(rt.alloc(), text.as_str())?.as_str(),
+            counted(rt.alloc(), text.as_bytes())?.as_str(),
             *want,
             "{front} {second} {middle}"
         );
@@ -148,7 +148,7 @@ fn limits_of_models(rt: HostRuntime) -> Result<(), Fail> {
             (*third, back),
         )?;
         assert_eq!(rt;
-            counted(rt.alloc(), text.as_str())?.as_str(),
+            counted(rt.alloc(), text.as_bytes())?.as_str(),
             *want,
             "{first} {front} {second} {middle}"
         );

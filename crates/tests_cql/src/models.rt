@@ -3,7 +3,7 @@ use crate::shown::said_of;
 use std::test::Fail;
 
 /// The curve of a file, and its nodes in their order.
-static FILES: [(&str, &str); 42] = [
+static FILES: [(&str, &str); 44] = [
     ("", ""),
     (" \t\r\n", ""),
     ("// a", ""),
@@ -39,6 +39,8 @@ static FILES: [(&str, &str); 42] = [
     ("R_Date(\"A\",-2000,1);", "A aged -2000000 by 1000"),
     ("R_Date(60000,10000);", " aged 60000000 by 10000000"),
     ("R_Date(0.001,05.50);", " aged 1 by 5500"),
+    ("R_Date(0,1.05);", " aged 0 by 1050"),
+    ("R_Date(\"A\",10.25,9999.999);", "A aged 10250 by 9999999"),
     ("Curve(\"IntCal20\");", "curve IntCal20.14c"),
     (
         "Curve(\"IntCal20\",\"IntCal20.14c\");",

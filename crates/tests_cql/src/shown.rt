@@ -1,5 +1,5 @@
 //! What was read, as texts.
-use cg_cql::{read_model, read_statement};
+use cg_cql::{curve_line, read_model, read_statement};
 use cg_grammar::{CqlCause, CqlFault, CqlLimit};
 use cg_model::{Dating, ModelTree, Node};
 use std::alloc::{AllocError, Global};
@@ -74,12 +74,12 @@ fn cause_of(alloc: Global, cause: &CqlCause) -> Result<String, Fail> {
     Ok(text)
 }
 
-/// What a short text is read as.
-fn read_short(alloc: Global, text: &str) -> Result<ModelTree, Option<CqlFault>> {
-    if text.len() > MAX_BYTES {
+/// What short bytes are read as.
+fn read_short(alloc: Global, bytes: &[u8]) -> Result<ModelTree, Option<CqlFault>> {
+    if bytes.len() > MAX_BYTES {
         return Err(None);
     }
-    match read_model(alloc, text.as_bytes()) {
+    match read_model(alloc, bytes) {
         Ok(model) => Ok(model),
         Err(fault) => Err(Some(fault)),
     }
@@ -98,10 +98,18 @@ fn read_alone(alloc: Global, text: &str) -> Result<Node, Option<CqlFault>> {
 
 /// The line and the cause of a file's fault.
 pub fn fault_of(alloc: Global, text: &str) -> Result<(u32, String), Fail> {
-    match read_short(alloc, text) {
+    match read_short(alloc, text.as_bytes()) {
         Err(Some(fault)) => Ok((fault.line, cause_of(alloc, &fault.cause)?)),
         _ => Err(Fail::from("no fault")),
     }
+}
+
+/// The line on which a short text names its curve.
+pub fn line_of(text: &str) -> Result<Option<u32>, Fail> {
+    if text.len() > MAX_BYTES {
+        return Err(Fail::from("a long text"));
+    }
+    Ok(curve_line(text.as_bytes()))
 }
 
 /// The line and the cause of the fault of a statement that stands alone.
@@ -115,7 +123,7 @@ pub fn fault_alone(alloc: Global, text: &str) -> Result<(u32, String), Fail> {
 /// The curve of a file, and its nodes in their order.
 pub fn said_of(alloc: Global, text: &str) -> Result<String, Fail> {
     let mut said = String::new(alloc);
-    match read_short(alloc, text) {
+    match read_short(alloc, text.as_bytes()) {
         Ok(model) => write_model(&mut said, &model)?,
         Err(_) => return Err(Fail::from("a fault")),
     }
@@ -123,9 +131,9 @@ pub fn said_of(alloc: Global, text: &str) -> Result<String, Fail> {
 }
 
 /// How many events and nodes a file has, or the line and the cause of its fault.
-pub fn counted(alloc: Global, text: &str) -> Result<String, Fail> {
+pub fn counted(alloc: Global, bytes: &[u8]) -> Result<String, Fail> {
     let mut said = String::new(alloc);
-    match read_short(alloc, text) {
+    match read_short(alloc, bytes) {
         Ok(model) => write!(&mut said, "{} of {}", model.events(), model.size())?,
         Err(Some(fault)) => {
             let cause = cause_of(alloc, &fault.cause)?;
