@@ -1,5 +1,5 @@
 ghost use Rattle.std.specs.Prelude.{◌≡◌, ◌<◌, ◌≤◌, ◌-◌, ◌∷◌, ◌++◌, [], length, slice_get, OnOk, OnErr, IfSome, IfNone, Some, option_map};
-ghost use Rattle.cg_curve.specs.Curves.{HasName, IsNew, NamedCurve as named};
+ghost use Rattle.cg_curve.specs.Curves.{HasName, IsNew, AreCurves, NamedCurve as named};
 
 use crate::curve::Curve;
 use cg_num::NoMemory;
@@ -60,10 +60,11 @@ impl Curves {
         Ok(())
     }
 
-    /// The number of the curve with this name, ASCII case aside, counted from 1. Takes no memory.
+    /// The number of the curve with this name, ASCII case aside, counted from 1. No other has it. Takes no memory.
     pub fn find(&self, name: &[u8]) -> Option<u8>
         ensures found { IfSome result (HasName self.now name.now) }
         ensures none { IfNone result (IsNew self.now name.now) }
+        ensures distinct { AreCurves self.now }
     {
         for (place, named) in self.named.iter().enumerate() {
             if named.name.eq_ignore_ascii_case(name) {

@@ -1,7 +1,6 @@
 -- What sessions of small scripts print, computed.
 use Rattle.std.proofs.Common.{◌≡◌, ℕ, ◌+◌, List, [], ◌∷◌, map, refl, pos, None}
 use Rattle.std.specs.Prelude.{codes}
-use Rattle.std.specs.Fmt.{digits}
 use Rattle.cg_meaning.specs.Tree.{Name, Tree, Leaf, Group, Trees, none, more, Sequence, Free}
 use Rattle.cg_meaning.specs.Scene.{Scene, scene_on}
 use Rattle.cg_sharing.specs.Edit.{Add, result_of}
@@ -33,10 +32,11 @@ add_to_s name = Change (Add (codes "s") (date name))
 abbrev committing : List Line
 committing = lines_from 1 (Open (codes "main") ∷ add_to_s (codes "C") ∷ Commit (codes "main") ∷ [])
 
--- the second prints before its grid is set, then adds "D" to the same version, and prints it, "C" and, of the head, "C"
+-- the second prints before its grid is set, then adds "D" to the same version, and prints it by its ranges, "C" and, of
+-- the head, "C"
 abbrev printing : List Line
 printing = lines_from 1 (Open (codes "main") ∷ command.Print (codes "A") ∷ command.Grid (pos 2000) (pos 2000) ∷ add_to_s (codes "D")
-    ∷ command.Print (codes "D") ∷ command.Print (codes "C") ∷ Open (codes "main") ∷ command.Print (codes "C") ∷ [])
+    ∷ command.Ranges (codes "D") ∷ command.Print (codes "C") ∷ Open (codes "main") ∷ command.Print (codes "C") ∷ [])
 
 abbrev year_2000 : Scene
 year_2000 = scene_on (record { oldest = pos 2000; cells = 1 })
@@ -52,7 +52,7 @@ third_of name version = record {
 }
 
 -- Whatever the other session commits in between, a print is of the session's own version.
-own_version : map (λ place. prints_of place.written) (interleaving [] (main_model ∷ []) (committing ∷ printing ∷ []) (2 ∷ 1 ∷ 1 ∷ 1 ∷ 2 ∷ 2 ∷ [])).places
+own_version : map (λ place. prints_of place.written) (interleaving (λ name. []) (main_model ∷ []) (committing ∷ printing ∷ []) (2 ∷ 1 ∷ 1 ∷ 1 ∷ 2 ∷ 2 ∷ [])).places
     ≡ [] ∷ (third_of (codes "D") 2 ∷ third_of (codes "C") 1 ∷ []) ∷ []
-unfolding digits result_of
+unfolding result_of
 own_version = refl

@@ -2,8 +2,6 @@
 use Rattle.std.specs.Prelude.{◌≡◌, ℕ, ◌<◌, List}
 use Rattle.std.specs.List.{All}
 use Rattle.cg_meaning.specs.Tree.{root_of, count}
-use Rattle.cg_meaning.specs.Curve.{Curve}
-use Rattle.cg_meaning.specs.Scene.{scene_of}
 use Rattle.cg_meaning.specs.Cover.{AreCovered}
 use Rattle.cg_model.specs.Grid.{IsGrid}
 use Rattle.cg_model.specs.Limits.{IsModel}
@@ -11,12 +9,12 @@ use Rattle.cg_sharing.specs.Command.{Line}
 use Rattle.cg_sharing.specs.Versions.{StartModel, start_of}
 use Rattle.cg_sharing.specs.Journal.{Entry, IsLegal}
 use Rattle.cg_sharing.specs.Pieces.{Print, prints_of}
-use Rattle.cg_sharing.specs.Course.{Place, IsCourse, AreFit}
+use Rattle.cg_sharing.specs.Course.{Calibration, Place, scene_by, IsCourse, AreFit}
 
--- The scene is of the curve, the model and the grid are within their limits, each event of the model can be weighed in
--- the scene, and the event is one of them.
-pub record IsFounded (curve : Curve) (print : Print) : Type 0 where
-  pub scene : print.scene ≡ scene_of print.scene.grid curve
+-- The scene is of the curve that serves the model, the model and the grid are within their limits, each event of the
+-- model can be weighed in the scene, and the event is one of them.
+pub record IsFounded (calibration : Calibration) (print : Print) : Type 0 where
+  pub scene : print.scene ≡ scene_by calibration print.chronology print.scene.grid
   pub model : IsModel print.chronology.top
   pub grid : IsGrid print.scene.grid.oldest print.scene.grid.cells
   pub covered : AreCovered (root_of print.chronology) print.scene
@@ -26,10 +24,11 @@ pub record IsFounded (curve : Curve) (print : Print) : Type 0 where
 abbrev pub IsSound : StartModel → Type 0
 IsSound model = IsModel model.chronology.top
 
--- whatever a session prints, at whatever version: where the models at the start are within their limits, the script is
--- in order, and the journal is legal
+-- whatever a session prints, by its pairs or by its ranges, at whatever version: where the models at the start are
+-- within their limits, the script is in order, and the journal is legal
 abbrev pub PrintsAreFounded : Type 0
 PrintsAreFounded =
-    (curve : Curve) (session : ℕ) (models : List StartModel) (script : List Line) (entries : List Entry) (place : Place) →
-    All IsSound models → AreFit script → IsLegal (start_of models) entries → IsCourse curve session (start_of models) script entries place →
-    All (λ print. IsFounded curve print) (prints_of place.written)
+    (calibration : Calibration) (session : ℕ) (models : List StartModel) (script : List Line) (entries : List Entry)
+    (place : Place) → All IsSound models → AreFit script → IsLegal (start_of models) entries →
+    IsCourse calibration session (start_of models) script entries place →
+    All (λ print. IsFounded calibration print) (prints_of place.written)

@@ -1,32 +1,36 @@
--- Small scripts, computed: what each session writes.
-use Rattle.std.proofs.Common.{◌≡◌, ℕ, zero, suc, ◌+◌, Option, refl, List, [], ◌∷◌, map, ℤ, pos, Some, None}
-use Rattle.std.specs.Prelude.{codes}
-use Rattle.std.specs.Fmt.{digits}
-use Rattle.cg_meaning.specs.Tree.{Name, Dating, Tree, Leaf, Boundary, Group, none, more, Sequence, Phase, Free, Normal, Carbon}
+-- Small scripts, computed: what each session tells.
+use Rattle.std.proofs.Common.{◌≡◌, ℕ, ◌+◌, List, [], ◌∷◌, map, refl, ℤ, pos, Option, Some, None, cond}
+use Rattle.std.specs.Prelude.{codes, bytes_eq}
+use Rattle.cg_meaning.specs.Tree.{Name, Dating, Tree, Leaf, Boundary, Group, Trees, none, more, Sequence, Phase, Free, Normal, Carbon}
 use Rattle.cg_meaning.specs.Curve.{Curve}
-use Rattle.cg_sharing.specs.Edit.{Add, result_of}
-use Rattle.cg_sharing.specs.Command.{Command, Line, Grid, Open, Take, Undo, Change, Commit, Print}
+use Rattle.cg_meaning.specs.Scene.{Scene, scene_on}
+use Rattle.cg_meaning.specs.Cover.{NoCurve, Uncovered, Far}
+use Rattle.cg_sharing.specs.Edit.{NoName, WrongKind, Ambiguous, a_group, Add, result_of}
+use Rattle.cg_sharing.specs.Command as command
+use Rattle.cg_sharing.specs.Command.{Command, Line, Grid, Open, Take, Undo, Change, Commit}
 use Rattle.cg_sharing.specs.Versions.{StartModel}
-use Rattle.cg_sharing.specs.Pieces.{Marginals}
-use Rattle.cg_sharing.specs.Interleaving.{interleaving, transcripts_of}
+use Rattle.cg_sharing.specs.Cause as cause
+use Rattle.cg_sharing.specs.Pieces as piece
+use Rattle.cg_sharing.specs.Pieces.{Print, Piece, Begun, At, Made, Committed, On, Refused}
+use Rattle.cg_sharing.specs.Course.{Calibration}
+use Rattle.cg_sharing.specs.Interleaving.{interleaving}
 
-abbrev date : List ℕ → Tree
+abbrev date : Name → Tree
 date name = Leaf name Free
 
+-- Sequence("s"){ <members> };
+abbrev sequence_of : Trees → Trees
+sequence_of members = more (Group Sequence (codes "s") members) none
+
 -- Sequence("s"){Date("A");Date("B");};
+abbrev a_and_b : Trees
+a_and_b = sequence_of (more (date (codes "A")) (more (date (codes "B")) none))
+
+abbrev model_of : Name → Option Name → Trees → StartModel
+model_of name curve top = record { name = name; chronology = record { curve = curve; top = top } }
+
 abbrev main_model : StartModel
-main_model = record {
-  name = codes "main";
-  chronology = record { curve = None; top = more (Group Sequence (codes "s") (more (date (codes "A")) (more (date (codes "B")) none))) none };
-}
-
--- one pair for each event but the first, which is told to be impossible
-abbrev pairs_of : ℕ → Option (List (ℕ × ℕ))
-pairs_of zero = None
-pairs_of (suc earlier) = Some ((1, 2) ∷ [])
-
-abbrev marginals : Marginals
-marginals = λ tree scene event. pairs_of event
+main_model = model_of (codes "main") None a_and_b
 
 abbrev lines_from : ℕ → List Command → List Line
 lines_from number [] = []
@@ -35,80 +39,131 @@ lines_from number (command ∷ commands) = record { number = number; command = c
 abbrev add_to_s : Name → Command
 add_to_s name = Change (Add (codes "s") (date name))
 
--- what sessions of these scripts write, which take these turns over this model
-abbrev written_on : Curve → StartModel → List (List Command) → List ℕ → List (List ℕ)
-written_on curve model scripts turns =
-    transcripts_of marginals 1 (interleaving curve (model ∷ []) (map (λ commands. lines_from 1 commands) scripts) turns).places
+-- what sessions of these scripts tell, which take these turns over these models
+abbrev told_by : Calibration → List StartModel → List (List Command) → List ℕ → List (List Piece)
+told_by calibration models scripts turns =
+    map (λ place. place.written) (interleaving calibration models (map (λ commands. lines_from 1 commands) scripts) turns).places
 
-abbrev written : List (List Command) → List ℕ → List (List ℕ)
-written scripts turns = written_on [] main_model scripts turns
+-- no model has a curve
+abbrev uncalibrated : Calibration
+uncalibrated name = []
+
+abbrev told : List (List Command) → List ℕ → List (List Piece)
+told scripts turns = told_by uncalibrated (main_model ∷ []) scripts turns
 
 -- Two sessions change one model in turns: the one that commits second is told of the other's version.
-one_head : written
+one_head : told
     ((Open (codes "main") ∷ add_to_s (codes "C") ∷ Commit (codes "main") ∷ [])
     ∷ (Open (codes "main") ∷ add_to_s (codes "D") ∷ Commit (codes "main") ∷ Undo ∷ Undo ∷ Take 7 ∷ []) ∷ [])
     (1 ∷ 2 ∷ 1 ∷ 2 ∷ 1 ∷ 2 ∷ [])
-    ≡ codes "session 1\nat v0\nmade v1\ncommitted v1\nend 1\n"
-    ∷ codes "session 2\nat v0\nmade v2\nrefused 3 moved v1\nat v0\nrefused 5 no parent\nrefused 6 no version 3\nend 2\n" ∷ []
-unfolding digits result_of
+    ≡ (Begun 1 ∷ At 0 ∷ Made 1 ∷ Committed 1 ∷ [])
+    ∷ (Begun 2 ∷ At 0 ∷ Made 2 ∷ Refused 3 (cause.Moved 1) ∷ At 0 ∷ Refused 5 cause.NoParent ∷ Refused 6 (cause.NoVersion 3) ∷ []) ∷ []
+unfolding result_of
 one_head = refl
 
+abbrev year_2000 : Scene
+year_2000 = scene_on (record { oldest = pos 2000; cells = 1 })
+
+-- an event of the version at the start, on a grid of one year
+abbrev at_start : Name → ℕ → Print
+at_start name event = record { name = name; version = 0; chronology = main_model.chronology; scene = year_2000; event = event }
+
 -- Refusals in their order, by the lines of the script; a refused grid leaves the grid.
-refusals : written
-    ((Print (codes "A") ∷ Undo ∷ Commit (codes "main") ∷ add_to_s (codes "C") ∷ Open (codes "curve") ∷ Open (codes "main") ∷ Print (codes "A")
-    ∷ Grid (pos 2512) (pos 2000) ∷ Grid (pos 2000) (pos 2000) ∷ Grid (pos 2000) (pos 2001) ∷ Print (codes "Z") ∷ Print (codes "s")
-    ∷ Print (codes "A") ∷ Print (codes "B") ∷ add_to_s (codes "A") ∷ Print (codes "A") ∷ Take 0 ∷ Commit (codes "main") ∷ Undo ∷ []) ∷ [])
+refusals : told
+    ((command.Print (codes "A") ∷ Undo ∷ Commit (codes "main") ∷ add_to_s (codes "C") ∷ Open (codes "curve") ∷ Open (codes "main") ∷ command.Print (codes "A")
+    ∷ Grid (pos 2512) (pos 2000) ∷ Grid (pos 2000) (pos 2000) ∷ Grid (pos 2000) (pos 2001) ∷ command.Print (codes "Z") ∷ command.Print (codes "s")
+    ∷ command.Print (codes "A") ∷ command.Print (codes "B") ∷ add_to_s (codes "A") ∷ command.Print (codes "A") ∷ Take 0 ∷ Commit (codes "main") ∷ Undo ∷ []) ∷ [])
     []
-    ≡ codes "session 1\nrefused 1 not open\nrefused 2 not open\nrefused 3 not open\nrefused 4 not open\nrefused 5 no model\nat v0\nrefused 7 no grid\nrefused 8 grid limit 513\ngrid 2000 2000\nrefused 10 grid limit 0\nrefused 11 no name\nrefused 12 wrong kind Sequence\nimpossible \"A\" v0\nmarginal \"B\" v0\n2000 51 BC 1 2\nmade v1\nrefused 16 ambiguous 2\nat v0\ncommitted v0\nrefused 19 no parent\nend 1\n" ∷ []
-unfolding digits result_of
+    ≡ (Begun 1 ∷ Refused 1 cause.NotOpen ∷ Refused 2 cause.NotOpen ∷ Refused 3 cause.NotOpen ∷ Refused 4 cause.NotOpen ∷ Refused 5 cause.NoModel ∷ At 0
+    ∷ Refused 7 cause.NoGrid ∷ Refused 8 (cause.GridLimit (pos 513)) ∷ On year_2000.grid ∷ Refused 10 (cause.GridLimit (pos 0))
+    ∷ Refused 11 (cause.Fault NoName) ∷ Refused 12 (cause.Fault (WrongKind (a_group Sequence)))
+    ∷ piece.Marginal (at_start (codes "A") 0) ∷ piece.Marginal (at_start (codes "B") 1) ∷ Made 1 ∷ Refused 16 (cause.Fault (Ambiguous 2)) ∷ At 0
+    ∷ Committed 0 ∷ Refused 19 cause.NoParent ∷ []) ∷ []
+unfolding result_of
 refusals = refl
 
--- an age of 2000 with a sigma of 20, from 2002 cal BP to 2000
-abbrev small_curve : Curve
-small_curve = record { year = pos 2002; age = pos 2000000; sigma = pos 20000 } ∷ record { year = pos 2000; age = pos 2000000; sigma = pos 20000 } ∷ []
+-- Ranges are refused where pairs are; the text of a model is that of the session's own version; work is always told.
+other_commands : told
+    ((command.Work ∷ command.Model ∷ command.Ranges (codes "B") ∷ Open (codes "main") ∷ command.Ranges (codes "B") ∷ Grid (pos 2000) (pos 2000)
+    ∷ command.Ranges (codes "s") ∷ command.Ranges (codes "B") ∷ command.Model ∷ add_to_s (codes "C") ∷ command.Model ∷ command.Work ∷ []) ∷ [])
+    []
+    ≡ (Begun 1 ∷ piece.Work ∷ Refused 2 cause.NotOpen ∷ Refused 3 cause.NotOpen ∷ At 0 ∷ Refused 5 cause.NoGrid ∷ On year_2000.grid
+    ∷ Refused 7 (cause.Fault (WrongKind (a_group Sequence))) ∷ piece.Ranges (at_start (codes "B") 1) ∷ piece.Model 0 main_model.chronology ∷ Made 1
+    ∷ piece.Model 1 (record { curve = None; top = sequence_of (more (date (codes "A")) (more (date (codes "B")) (more (date (codes "C")) none))) })
+    ∷ piece.Work ∷ []) ∷ []
+unfolding result_of
+other_commands = refl
 
--- a Phase of an event "A" and a Sequence of a Boundary and an event "B", of these datings
-abbrev dated_model : Dating → Dating → StartModel
-dated_model first second = record {
-  name = codes "main";
-  chronology = record {
-    curve = None;
-    top = more (Group Phase (codes "p") (more (Leaf (codes "A") first)
-        (more (Group Sequence [] (more (Boundary []) (more (Leaf (codes "B") second) none))) none))) none;
-  };
-}
+-- an age of 2000 with this sigma, from 2002 cal BP to 2000
+abbrev flat_curve : ℤ → Curve
+flat_curve sigma = record { year = pos 2002; age = pos 2000000; sigma = sigma } ∷ record { year = pos 2000; age = pos 2000000; sigma = sigma } ∷ []
 
--- what a session writes that prints "A" of this model, after its first two lines
-abbrev printed : Curve → Dating → Dating → ℤ → List (List ℕ)
-printed curve first second older =
-    written_on curve (dated_model first second) ((Open (codes "main") ∷ Grid older (pos 2000) ∷ Print (codes "C") ∷ Print (codes "A") ∷ []) ∷ []) []
+-- one curve by the name "south", another by the other names, and a third without a name
+abbrev calibration : Calibration
+calibration None = flat_curve (pos 20000)
+calibration (Some name) = cond (bytes_eq name (codes "south")) (flat_curve (pos 30000)) (flat_curve (pos 40000))
 
--- A radiocarbon date needs a curve, whichever event is printed; a name that no event has is told before.
-no_curve : printed [] Free (Carbon (pos 2000000) (pos 1000)) (pos 2001)
-    ≡ codes "session 1\nat v0\ngrid 2001 2000\nrefused 3 no name\nrefused 4 no curve\nend 1\n" ∷ []
-unfolding digits result_of
+-- "A" of such a model, dated on its own curve
+abbrev on_curve : Option Name → ℕ → Curve → Piece
+on_curve name version curve = piece.Marginal (record {
+  name = codes "A";
+  version = version;
+  chronology = record { curve = name; top = a_and_b };
+  scene = record { grid = year_2000.grid; curve = curve };
+  event = 0;
+})
+
+-- Each model is dated by the curve that it names itself, and one that names none by that without a name.
+own_curves : told_by calibration
+    (model_of (codes "x") (Some (codes "south")) a_and_b ∷ model_of (codes "y") (Some (codes "north")) a_and_b ∷ model_of (codes "z") None a_and_b ∷ [])
+    ((Grid (pos 2000) (pos 2000) ∷ Open (codes "x") ∷ command.Print (codes "A") ∷ Open (codes "y") ∷ command.Print (codes "A") ∷ Open (codes "z")
+    ∷ command.Print (codes "A") ∷ []) ∷ [])
+    []
+    ≡ (Begun 1 ∷ On year_2000.grid ∷ At 0 ∷ on_curve (Some (codes "south")) 0 (flat_curve (pos 30000)) ∷ At 1
+    ∷ on_curve (Some (codes "north")) 1 (flat_curve (pos 40000)) ∷ At 2 ∷ on_curve None 2 (flat_curve (pos 20000)) ∷ []) ∷ []
+own_curves = refl
+
+-- A Phase of an event "A" and a Sequence of a Boundary and an event "B", of these datings.
+abbrev dated : Dating → Dating → Trees
+dated first second = more (Group Phase (codes "p") (more (Leaf (codes "A") first)
+    (more (Group Sequence [] (more (Boundary []) (more (Leaf (codes "B") second) none))) none))) none
+
+-- what a session tells that asks for "A" of this model, without a curve's name
+abbrev asked : Curve → Dating → Dating → ℤ → List (List Piece)
+asked curve first second older = told_by (λ name. curve) (model_of (codes "main") None (dated first second) ∷ [])
+    ((Open (codes "main") ∷ Grid older (pos 2000) ∷ command.Print (codes "C") ∷ command.Print (codes "A") ∷ []) ∷ []) []
+
+-- on a grid from this year on of so many cells, that is this piece; a name that no event has is told before
+abbrev ends_with : ℤ → ℕ → Piece → List (List Piece)
+ends_with older cells last =
+    (Begun 1 ∷ At 0 ∷ On (record { oldest = older; cells = cells }) ∷ Refused 3 (cause.Fault NoName) ∷ last ∷ []) ∷ []
+
+-- A radiocarbon date needs a curve, whichever event is printed.
+no_curve : asked [] Free (Carbon (pos 2000000) (pos 1000)) (pos 2001) ≡ ends_with (pos 2001) 2 (Refused 4 (cause.Cover NoCurve))
 no_curve = refl
 
 -- The oldest year is told at which the curve has no value, and
-uncovered : printed small_curve Free (Carbon (pos 17000000) (pos 1000)) (pos 2004)
-    ≡ codes "session 1\nat v0\ngrid 2004 2000\nrefused 3 no name\nrefused 4 uncovered 2004\nend 1\n" ∷ []
-unfolding digits result_of
+uncovered : asked (flat_curve (pos 20000)) Free (Carbon (pos 17000000) (pos 1000)) (pos 2004)
+    ≡ ends_with (pos 2004) 5 (Refused 4 (cause.Cover (Uncovered (pos 2004))))
 uncovered = refl
 
 -- the oldest one that is more than 16,384 years away.
-far : printed small_curve Free (Carbon (pos 18385000) (pos 1000)) (pos 2001)
-    ≡ codes "session 1\nat v0\ngrid 2001 2000\nrefused 3 no name\nrefused 4 far date 2001\nend 1\n" ∷ []
-unfolding digits result_of
+far : asked (flat_curve (pos 20000)) Free (Carbon (pos 18385000) (pos 1000)) (pos 2001)
+    ≡ ends_with (pos 2001) 2 (Refused 4 (cause.Cover (Far (pos 2001))))
 far = refl
 
 -- The first event at fault is told.
-first_at_fault : printed [] (Normal (pos 20000) (pos 1000)) (Carbon (pos 2000000) (pos 1000)) (pos 2001)
-    ≡ codes "session 1\nat v0\ngrid 2001 2000\nrefused 3 no name\nrefused 4 far date 2001\nend 1\n" ∷ []
-unfolding digits result_of
+first_at_fault : asked [] (Normal (pos 20000) (pos 1000)) (Carbon (pos 2000000) (pos 1000)) (pos 2001)
+    ≡ ends_with (pos 2001) 2 (Refused 4 (cause.Cover (Far (pos 2001))))
 first_at_fault = refl
 
 -- At 16,384 years an event is weighed.
-near : printed small_curve Free (Carbon (pos 18384000) (pos 1000)) (pos 2000)
-    ≡ codes "session 1\nat v0\ngrid 2000 2000\nrefused 3 no name\nimpossible \"A\" v0\nend 1\n" ∷ []
-unfolding digits result_of
+near : asked (flat_curve (pos 20000)) Free (Carbon (pos 18384000) (pos 1000)) (pos 2000)
+    ≡ ends_with (pos 2000) 1 (piece.Marginal (record {
+      name = codes "A";
+      version = 0;
+      chronology = record { curve = None; top = dated Free (Carbon (pos 18384000) (pos 1000)) };
+      scene = record { grid = year_2000.grid; curve = flat_curve (pos 20000) };
+      event = 0;
+    }))
 near = refl

@@ -1,7 +1,6 @@
 -- A course along a journal that grows, and what a session knows at each place of it.
 use Rattle.std.proofs.Common.{◌≡◌, ◌≢◌, ℕ, suc, ◌<◌, ◌≤◌, true, false, cond, is_some, nat_eq, List, [], ◌∷◌, ◌++◌, length, refl, sym, ap, subst, ◌∙◌, arith, ne_eqb, eq-eqb, eqb-true, Option, Some, None, Result, Ok, Err, ltb-true, ℤ}
 use Rattle.std.specs.Prelude.{nat_lt, bytes_eq, option_map}
-use Rattle.cg_meaning.specs.Curve.{Curve}
 use Rattle.cg_meaning.specs.Tree.{Name, Trees}
 use Rattle.cg_meaning.specs.Scene.{Grid}
 use Rattle.cg_sharing.specs.Edit.{Edit, EditFault, result_of}
@@ -10,56 +9,56 @@ use Rattle.cg_sharing.specs.Command.{Command, Line}
 use Rattle.cg_sharing.specs.Versions.{State, Head, count_of, head_of, parent_of, chronology_of}
 use Rattle.cg_sharing.specs.Journal as journal
 use Rattle.cg_sharing.specs.Journal.{Act, Answer, Entry, at_or, made_or, is_base, committed_or, answer_of, with_result, changed_by, after, state_after, May, IsLegal, IsInOrder}
-use Rattle.cg_sharing.specs.Course.{Place, act_of, first_act, next, grid_of, with_grid, done_at, settled, entrance_of, begin, with_base, bases_after, answered, went_on, went, moved, walk, AreOthers, Follows, IsRunning, IsFit, AreFit}
+use Rattle.cg_sharing.specs.Course.{Calibration, Place, act_of, first_act, next, grid_of, with_grid, done_at, settled, entrance_of, begin, with_base, bases_after, answered, went_on, went, moved, walk, AreOthers, Follows, IsRunning, IsFit, AreFit}
 use Rattle.cg_sharing.proofs.JournalLemmas.{IsBelow, AreBelow, IsClosed, IsBelow-more, AreBelow-more, head_of-below, parent_of-below, grows-changed_by, count_of-with_version, commit-known, closed-changed_by}
 
 -- The entry of another seat leaves the place.
-pub other_moves : (curve : Curve) (session : ℕ) (state : State) (entry : Entry) (place : Place) → entry.seat ≢ session → moved curve session state entry place ≡ place
-other_moves curve session state entry place ne = rw (ne_eqb entry.seat session ne) refl
+pub other_moves : (calibration : Calibration) (session : ℕ) (state : State) (entry : Entry) (place : Place) → entry.seat ≢ session → moved calibration session state entry place ≡ place
+other_moves calibration session state entry place ne = rw (ne_eqb entry.seat session ne) refl
 
 -- Its own moves it.
-pub own_moves : (curve : Curve) (session : ℕ) (state : State) (entry : Entry) (place : Place) → entry.seat ≡ session → moved curve session state entry place ≡ went curve state entry.answer place
-own_moves curve session state entry place is = rw (eq-eqb entry.seat session is) refl
+pub own_moves : (calibration : Calibration) (session : ℕ) (state : State) (entry : Entry) (place : Place) → entry.seat ≡ session → moved calibration session state entry place ≡ went calibration state entry.answer place
+own_moves calibration session state entry place is = rw (eq-eqb entry.seat session is) refl
 
-pub walk-append : (curve : Curve) (session : ℕ) (state : State) (place : Place) (xs ys : List Entry) → walk curve session state place (xs ++ ys) ≡ walk curve session (state_after state xs) (walk curve session state place xs) ys
-walk-append curve session state place [] ys = refl
-walk-append curve session state place (x ∷ xs) ys = walk-append curve session (after state x) (moved curve session (after state x) x place) xs ys
+pub walk-append : (calibration : Calibration) (session : ℕ) (state : State) (place : Place) (xs ys : List Entry) → walk calibration session state place (xs ++ ys) ≡ walk calibration session (state_after state xs) (walk calibration session state place xs) ys
+walk-append calibration session state place [] ys = refl
+walk-append calibration session state place (x ∷ xs) ys = walk-append calibration session (after state x) (moved calibration session (after state x) x place) xs ys
 
-pub Follows-append : (curve : Curve) (session : ℕ) (state : State) (place : Place) (xs ys : List Entry) → Follows curve session state place xs →
-    Follows curve session (state_after state xs) (walk curve session state place xs) ys → Follows curve session state place (xs ++ ys)
-Follows-append curve session state place [] ys first then = then
-Follows-append curve session state place (x ∷ xs) ys first then = (first.0, Follows-append curve session (after state x) (moved curve session (after state x) x place) xs ys first.1 then)
+pub Follows-append : (calibration : Calibration) (session : ℕ) (state : State) (place : Place) (xs ys : List Entry) → Follows calibration session state place xs →
+    Follows calibration session (state_after state xs) (walk calibration session state place xs) ys → Follows calibration session state place (xs ++ ys)
+Follows-append calibration session state place [] ys first then = then
+Follows-append calibration session state place (x ∷ xs) ys first then = (first.0, Follows-append calibration session (after state x) (moved calibration session (after state x) x place) xs ys first.1 then)
 
 -- Entries of other seats leave the place.
-pub others_walk : (curve : Curve) (session : ℕ) (state : State) (place : Place) (xs : List Entry) → AreOthers session xs → walk curve session state place xs ≡ place
-others_walk curve session state place [] others = refl
-others_walk curve session state place (x ∷ xs) others =
-    ap (λ (q : Place). walk curve session (after state x) q xs) (other_moves curve session (after state x) x place others.0) ∙ others_walk curve session (after state x) place xs others.1
+pub others_walk : (calibration : Calibration) (session : ℕ) (state : State) (place : Place) (xs : List Entry) → AreOthers session xs → walk calibration session state place xs ≡ place
+others_walk calibration session state place [] others = refl
+others_walk calibration session state place (x ∷ xs) others =
+    ap (λ (q : Place). walk calibration session (after state x) q xs) (other_moves calibration session (after state x) x place others.0) ∙ others_walk calibration session (after state x) place xs others.1
 
-pub others_follow : (curve : Curve) (session : ℕ) (state : State) (place : Place) (xs : List Entry) → AreOthers session xs → Follows curve session state place xs
-others_follow curve session state place [] others = tt
-others_follow curve session state place (x ∷ xs) others = (
+pub others_follow : (calibration : Calibration) (session : ℕ) (state : State) (place : Place) (xs : List Entry) → AreOthers session xs → Follows calibration session state place xs
+others_follow calibration session state place [] others = tt
+others_follow calibration session state place (x ∷ xs) others = (
   (λ is. absurd (others.0 is)),
-  subst (λ (q : Place). Follows curve session (after state x) q xs) (sym (other_moves curve session (after state x) x place others.0)) (others_follow curve session (after state x) place xs others.1),
+  subst (λ (q : Place). Follows calibration session (after state x) q xs) (sym (other_moves calibration session (after state x) x place others.0)) (others_follow calibration session (after state x) place xs others.1),
 )
 
 -- A course goes on over entries of other seats.
-pub running-others : (curve : Curve) (session : ℕ) (start : State) (script : List Line) (xs ys : List Entry) (place : Place) → IsRunning curve session start script xs place → AreOthers session ys → IsRunning curve session start script (xs ++ ys) place
-running-others curve session start script xs ys place run others = let first = begin curve session start script in record {
-  follows = Follows-append curve session start first xs ys run.follows (others_follow curve session (state_after start xs) (walk curve session start first xs) ys others);
-  reached = run.reached ∙ sym (walk-append curve session start first xs ys ∙ others_walk curve session (state_after start xs) (walk curve session start first xs) ys others);
+pub running-others : (calibration : Calibration) (session : ℕ) (start : State) (script : List Line) (xs ys : List Entry) (place : Place) → IsRunning calibration session start script xs place → AreOthers session ys → IsRunning calibration session start script (xs ++ ys) place
+running-others calibration session start script xs ys place run others = let first = begin calibration session start script in record {
+  follows = Follows-append calibration session start first xs ys run.follows (others_follow calibration session (state_after start xs) (walk calibration session start first xs) ys others);
+  reached = run.reached ∙ sym (walk-append calibration session start first xs ys ∙ others_walk calibration session (state_after start xs) (walk calibration session start first xs) ys others);
 }
 
 -- It goes on over the answer to its next act.
-pub running-own : (curve : Curve) (session : ℕ) (start : State) (script : List Line) (xs : List Entry) (entry : Entry) (place : Place) → IsRunning curve session start script xs place → entry.seat ≡ session → next place ≡ Some entry.act →
-    IsRunning curve session start script (xs ++ entry ∷ []) (went curve (after (state_after start xs) entry) entry.answer place)
-running-own curve session start script xs entry place run own act =
-    let first = begin curve session start script in
+pub running-own : (calibration : Calibration) (session : ℕ) (start : State) (script : List Line) (xs : List Entry) (entry : Entry) (place : Place) → IsRunning calibration session start script xs place → entry.seat ≡ session → next place ≡ Some entry.act →
+    IsRunning calibration session start script (xs ++ entry ∷ []) (went calibration (after (state_after start xs) entry) entry.answer place)
+running-own calibration session start script xs entry place run own act =
+    let first = begin calibration session start script in
     let state = state_after start xs in
-    let step = own_moves curve session (after state entry) entry place own in
+    let step = own_moves calibration session (after state entry) entry place own in
     record {
-      follows = Follows-append curve session start first xs (entry ∷ []) run.follows (subst (λ (q : Place). Follows curve session state q (entry ∷ [])) run.reached ((λ _. act), tt));
-      reached = sym step ∙ ap (λ (q : Place). moved curve session (after state entry) entry q) run.reached ∙ sym (walk-append curve session start first xs (entry ∷ []));
+      follows = Follows-append calibration session start first xs (entry ∷ []) run.follows (subst (λ (q : Place). Follows calibration session state q (entry ∷ [])) run.reached ((λ _. act), tt));
+      reached = sym step ∙ ap (λ (q : Place). moved calibration session (after state entry) entry q) run.reached ∙ sym (walk-append calibration session start first xs (entry ∷ []));
     }
 
 -- What a place says of versions is known, and want of memory hasn't come.
@@ -94,28 +93,31 @@ keeps_with_grid number (Ok grid) place = record { version = refl; bases = refl; 
 keeps_with_grid number (Err cells) place = record { version = refl; bases = refl; stopped = refl }
 
 -- a command that makes no act keeps them
-pub keeps-done_at : (curve : Curve) (state : State) (number : ℕ) (c : Command) (place : Place) → Keeps place (done_at curve state number c place)
-keeps-done_at curve state number (command.Grid older younger) place = keeps_with_grid number (grid_of older younger) place
-keeps-done_at curve state number (command.Print name) place = record { version = refl; bases = refl; stopped = refl }
-keeps-done_at curve state number other place = record { version = refl; bases = refl; stopped = refl }
+pub keeps-done_at : (calibration : Calibration) (state : State) (number : ℕ) (c : Command) (place : Place) → Keeps place (done_at calibration state number c place)
+keeps-done_at calibration state number (command.Grid older younger) place = keeps_with_grid number (grid_of older younger) place
+keeps-done_at calibration state number (command.Print name) place = record { version = refl; bases = refl; stopped = refl }
+keeps-done_at calibration state number (command.Ranges name) place = record { version = refl; bases = refl; stopped = refl }
+keeps-done_at calibration state number command.Model place = record { version = refl; bases = refl; stopped = refl }
+keeps-done_at calibration state number command.Work place = record { version = refl; bases = refl; stopped = refl }
+keeps-done_at calibration state number other place = record { version = refl; bases = refl; stopped = refl }
 
 -- and so do the commands up to the next act
-pub keeps-settled : (curve : Curve) (state : State) (lines : List Line) (place : Place) → Keeps place (settled curve state lines place)
-keeps-settled curve state [] place = record { version = refl; bases = refl; stopped = refl }
-keeps-settled curve state (line ∷ lines) place =
-    let step = keeps-done_at curve state line.number line.command place in
-    let later = keeps-settled curve state lines (done_at curve state line.number line.command place) in
-    elim (is_some (act_of place line.command)) as (λ b. Keeps place (cond b (record place { left = line ∷ lines }) (settled curve state lines (done_at curve state line.number line.command place)))) [
+pub keeps-settled : (calibration : Calibration) (state : State) (lines : List Line) (place : Place) → Keeps place (settled calibration state lines place)
+keeps-settled calibration state [] place = record { version = refl; bases = refl; stopped = refl }
+keeps-settled calibration state (line ∷ lines) place =
+    let step = keeps-done_at calibration state line.number line.command place in
+    let later = keeps-settled calibration state lines (done_at calibration state line.number line.command place) in
+    elim (is_some (act_of place line.command)) as (λ b. Keeps place (cond b (record place { left = line ∷ lines }) (settled calibration state lines (done_at calibration state line.number line.command place)))) [
       | true ↦ record { version = refl; bases = refl; stopped = refl }
       | false ↦ record { version = later.version ∙ step.version; bases = later.bases ∙ step.bases; stopped = later.stopped ∙ step.stopped }
     ]
 
 -- no line comes back
-pub length-settled : (curve : Curve) (state : State) (lines : List Line) (place : Place) → length (settled curve state lines place).left ≤ length lines
-length-settled curve state [] place = omega arith
-length-settled curve state (line ∷ lines) place =
-    let later = length-settled curve state lines (done_at curve state line.number line.command place) in
-    elim (is_some (act_of place line.command)) as (λ b. length (cond b (record place { left = line ∷ lines }) (settled curve state lines (done_at curve state line.number line.command place))).left ≤ length (line ∷ lines)) [
+pub length-settled : (calibration : Calibration) (state : State) (lines : List Line) (place : Place) → length (settled calibration state lines place).left ≤ length lines
+length-settled calibration state [] place = omega arith
+length-settled calibration state (line ∷ lines) place =
+    let later = length-settled calibration state lines (done_at calibration state line.number line.command place) in
+    elim (is_some (act_of place line.command)) as (λ b. length (cond b (record place { left = line ∷ lines }) (settled calibration state lines (done_at calibration state line.number line.command place))).left ≤ length (line ∷ lines)) [
       | true ↦ omega arith
       | false ↦ omega (arith, later)
     ]
@@ -129,6 +131,9 @@ act_of-left command.Undo place lines = refl
 act_of-left (command.Change edit) place lines = refl
 act_of-left (command.Commit name) place lines = refl
 act_of-left (command.Print name) place lines = refl
+act_of-left (command.Ranges name) place lines = refl
+act_of-left command.Model place lines = refl
+act_of-left command.Work place lines = refl
 
 first_fit : (line : Line) (lines : List Line) → AreFit (line ∷ lines) → IsFit line.command
 first_fit line lines fit = fit 0 line (omega arith)
@@ -141,11 +146,11 @@ not_none None some none = cc
 not_none (Some x) some none = cc
 
 -- a place is at rest once it is settled
-pub rests-settled : (curve : Curve) (state : State) (lines : List Line) (place : Place) → AreFit lines → Rests (settled curve state lines place)
-rests-settled curve state [] place fit = record { ends = λ _. refl; fit = fit }
-rests-settled curve state (line ∷ lines) place fit =
-    let later = rests-settled curve state lines (done_at curve state line.number line.command place) (others_fit line lines fit) in
-    elim (is_some (act_of place line.command)) as (λ b. is_some (act_of place line.command) ≡ b → Rests (cond b (record place { left = line ∷ lines }) (settled curve state lines (done_at curve state line.number line.command place)))) [
+pub rests-settled : (calibration : Calibration) (state : State) (lines : List Line) (place : Place) → AreFit lines → Rests (settled calibration state lines place)
+rests-settled calibration state [] place fit = record { ends = λ _. refl; fit = fit }
+rests-settled calibration state (line ∷ lines) place fit =
+    let later = rests-settled calibration state lines (done_at calibration state line.number line.command place) (others_fit line lines fit) in
+    elim (is_some (act_of place line.command)) as (λ b. is_some (act_of place line.command) ≡ b → Rests (cond b (record place { left = line ∷ lines }) (settled calibration state lines (done_at calibration state line.number line.command place)))) [
       | true ↦ λ some. record { ends = λ none. absurd (not_none (act_of place line.command) some (sym (act_of-left line.command place (line ∷ lines)) ∙ none)); fit = fit }
       | false ↦ λ _. later
     ] refl
@@ -170,6 +175,9 @@ may_do state place (command.Commit name) act knows fit is =
     let base = head_of name place.bases in
     may_on state (λ v. journal.Commit name base v) place.version act (λ v known. may_commit state name base v (head_of-below (count_of state) name place.bases knows.bases) known) knows.version is
 may_do state place (command.Print name) act knows fit is = absurd (cc)
+may_do state place (command.Ranges name) act knows fit is = absurd (cc)
+may_do state place command.Model act knows fit is = absurd (cc)
+may_do state place command.Work act knows fit is = absurd (cc)
 
 may_first : (state : State) (place : Place) (lines : List Line) (act : Act) → Knows (count_of state) place → AreFit lines → first_act place lines ≡ Some act → May state act
 may_first state place [] act knows fit is = absurd (cc)
@@ -243,51 +251,51 @@ knows-answered count line (journal.Made version) place says knows = record { ver
 knows-answered count line (journal.Committed version) place says knows = record { version = knows.version; bases = bases_after-below count line.command version place.bases says knows.bases; going = knows.going }
 knows-answered count line other place says knows = record { version = knows.version; bases = knows.bases; going = knows.going }
 
-went_first : (curve : Curve) (state : State) (place : Place) (lines : List Line) (act : Act) (answer : Answer) → Knows (count_of state) place → AreFit lines → IsClosed state → first_act place lines ≡ Some act →
-    answer ≡ answer_of state act → let now = changed_by act answer state in let new = went_on curve now lines answer place in Knows (count_of now) new × Rests new × (length new.left < length lines)
-went_first curve state place [] act answer knows fit closed is right = absurd (cc)
-went_first curve state place (line ∷ lines) act answer knows fit closed is right =
+went_first : (calibration : Calibration) (state : State) (place : Place) (lines : List Line) (act : Act) (answer : Answer) → Knows (count_of state) place → AreFit lines → IsClosed state → first_act place lines ≡ Some act →
+    answer ≡ answer_of state act → let now = changed_by act answer state in let new = went_on calibration now lines answer place in Knows (count_of now) new × Rests new × (length new.left < length lines)
+went_first calibration state place [] act answer knows fit closed is right = absurd (cc)
+went_first calibration state place (line ∷ lines) act answer knows fit closed is right =
     let now = changed_by act answer state in
     let may = may_do state place line.command act knows (first_fit line lines fit) is in
     let P : Answer → Type 0 = λ a. SaysBelow (count_of (changed_by act a state)) a in
     let says = subst P (sym right) (says-answer state act closed may) in
     let told = knows-answered (count_of now) line answer place says (Knows-more (grows-changed_by act answer state) place knows) in (
-      Keeps-knows (count_of now) (answered line answer place) (settled curve now lines (answered line answer place)) (keeps-settled curve now lines (answered line answer place)) told,
-      rests-settled curve now lines (answered line answer place) (others_fit line lines fit),
-      omega (arith, length-settled curve now lines (answered line answer place)),
+      Keeps-knows (count_of now) (answered line answer place) (settled calibration now lines (answered line answer place)) (keeps-settled calibration now lines (answered line answer place)) told,
+      rests-settled calibration now lines (answered line answer place) (others_fit line lines fit),
+      omega (arith, length-settled calibration now lines (answered line answer place)),
     )
 
 -- After the answer to its next act a session knows its versions and is at rest, with fewer lines left.
-pub went_next : (curve : Curve) (state : State) (place : Place) (act : Act) (answer : Answer) → Knows (count_of state) place → Rests place → IsClosed state → next place ≡ Some act → answer ≡ answer_of state act →
-    let now = changed_by act answer state in let new = went curve now answer place in Knows (count_of now) new × Rests new × (length new.left < length place.left)
-went_next curve state place act answer knows rests closed is right = went_first curve state place place.left act answer knows rests.fit closed is right
+pub went_next : (calibration : Calibration) (state : State) (place : Place) (act : Act) (answer : Answer) → Knows (count_of state) place → Rests place → IsClosed state → next place ≡ Some act → answer ≡ answer_of state act →
+    let now = changed_by act answer state in let new = went calibration now answer place in Knows (count_of now) new × Rests new × (length new.left < length place.left)
+went_next calibration state place act answer knows rests closed is right = went_first calibration state place place.left act answer knows rests.fit closed is right
 
 -- It does where it begins
-pub begin_knows : (curve : Curve) (session : ℕ) (start : State) (script : List Line) → Knows (count_of start) (begin curve session start script)
-begin_knows curve session start script =
-    Keeps-knows (count_of start) (entrance_of session) (begin curve session start script) (keeps-settled curve start script (entrance_of session)) (record { version = tt; bases = tt; going = refl })
+pub begin_knows : (calibration : Calibration) (session : ℕ) (start : State) (script : List Line) → Knows (count_of start) (begin calibration session start script)
+begin_knows calibration session start script =
+    Keeps-knows (count_of start) (entrance_of session) (begin calibration session start script) (keeps-settled calibration start script (entrance_of session)) (record { version = tt; bases = tt; going = refl })
 
-moved_on : (curve : Curve) (session : ℕ) (state : State) (entry : Entry) (place : Place) → Knows (count_of state) place → Rests place → IsClosed state → May state entry.act → entry.answer ≡ answer_of state entry.act →
-    (entry.seat ≡ session → next place ≡ Some entry.act) → Knows (count_of (after state entry)) (moved curve session (after state entry) entry place) × Rests (moved curve session (after state entry) entry place)
-moved_on curve session state entry place knows rests closed may right follows =
+moved_on : (calibration : Calibration) (session : ℕ) (state : State) (entry : Entry) (place : Place) → Knows (count_of state) place → Rests place → IsClosed state → May state entry.act → entry.answer ≡ answer_of state entry.act →
+    (entry.seat ≡ session → next place ≡ Some entry.act) → Knows (count_of (after state entry)) (moved calibration session (after state entry) entry place) × Rests (moved calibration session (after state entry) entry place)
+moved_on calibration session state entry place knows rests closed may right follows =
     let now = after state entry in
-    elim (nat_eq entry.seat session) as (λ b. nat_eq entry.seat session ≡ b → let new = cond b (went curve now entry.answer place) place in Knows (count_of now) new × Rests new) [
-      | true ↦ λ own. let new = went_next curve state place entry.act entry.answer knows rests closed (follows (eqb-true entry.seat session own)) right in (new.0, new.1)
+    elim (nat_eq entry.seat session) as (λ b. nat_eq entry.seat session ≡ b → let new = cond b (went calibration now entry.answer place) place in Knows (count_of now) new × Rests new) [
+      | true ↦ λ own. let new = went_next calibration state place entry.act entry.answer knows rests closed (follows (eqb-true entry.seat session own)) right in (new.0, new.1)
       | false ↦ λ _. (Knows-more (grows-changed_by entry.act entry.answer state) place knows, rests)
     ] refl
 
 -- and along a legal journal.
-pub walk_knows : (curve : Curve) (session : ℕ) (state : State) (place : Place) (xs : List Entry) → Knows (count_of state) place → Rests place → IsClosed state → IsLegal state xs → Follows curve session state place xs →
-    Knows (count_of (state_after state xs)) (walk curve session state place xs) × Rests (walk curve session state place xs)
-walk_knows curve session state place [] knows rests closed legal follows = (knows, rests)
-walk_knows curve session state place (x ∷ xs) knows rests closed legal follows =
+pub walk_knows : (calibration : Calibration) (session : ℕ) (state : State) (place : Place) (xs : List Entry) → Knows (count_of state) place → Rests place → IsClosed state → IsLegal state xs → Follows calibration session state place xs →
+    Knows (count_of (state_after state xs)) (walk calibration session state place xs) × Rests (walk calibration session state place xs)
+walk_knows calibration session state place [] knows rests closed legal follows = (knows, rests)
+walk_knows calibration session state place (x ∷ xs) knows rests closed legal follows =
     let now = after state x in
-    let new = moved_on curve session state x place knows rests closed legal.0 legal.1 follows.0 in
-    walk_knows curve session now (moved curve session now x place) xs new.0 new.1 (closed-changed_by x.act x.answer state legal.0 closed) legal.2 follows.1
+    let new = moved_on calibration session state x place knows rests closed legal.0 legal.1 follows.0 in
+    walk_knows calibration session now (moved calibration session now x place) xs new.0 new.1 (closed-changed_by x.act x.answer state legal.0 closed) legal.2 follows.1
 
 -- What a session knows at a place of its course over a legal journal.
-pub running_knows : (curve : Curve) (session : ℕ) (start : State) (script : List Line) (xs : List Entry) (place : Place) → IsClosed start → AreFit script → IsLegal start xs → IsRunning curve session start script xs place →
+pub running_knows : (calibration : Calibration) (session : ℕ) (start : State) (script : List Line) (xs : List Entry) (place : Place) → IsClosed start → AreFit script → IsLegal start xs → IsRunning calibration session start script xs place →
     Knows (count_of (state_after start xs)) place × Rests place
-running_knows curve session start script xs place closed fit legal run =
+running_knows calibration session start script xs place closed fit legal run =
     let P : Place → Type 0 = λ p. Knows (count_of (state_after start xs)) p × Rests p in
-    subst P (sym run.reached) (walk_knows curve session start (begin curve session start script) xs (begin_knows curve session start script) (rests-settled curve start script (entrance_of session) fit) closed legal run.follows)
+    subst P (sym run.reached) (walk_knows calibration session start (begin calibration session start script) xs (begin_knows calibration session start script) (rests-settled calibration start script (entrance_of session) fit) closed legal run.follows)

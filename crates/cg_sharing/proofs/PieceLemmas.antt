@@ -1,21 +1,25 @@
--- Pieces behind others.
-use Rattle.std.proofs.Common.{◌≡◌, List, [], ◌∷◌, ◌++◌, refl, sym, ap, ◌∙◌, append_assoc, append-nil}
-use Rattle.cg_sharing.specs.Pieces.{Print, Piece, Lines, Marginal, Marginals, text_of_piece, text_of, prints_of}
+-- Pieces behind others, and the marginals of which ranges are told.
+use Rattle.std.proofs.Common.{◌≡◌, List, [], ◌∷◌, ◌++◌, refl, sym, ap, ◌∙◌, append_assoc}
+use Rattle.std.specs.List.{All}
+use Rattle.std.proofs.lemmas.List.Elements.{All-cons, All-head, All-tail}
+use Rattle.cg_sharing.specs.Pieces.{Print, Piece, Marginal, Ranges, prints_in, ranges_in, prints_of, ranges_of}
 
--- The text is that of the first, and that of the others behind it.
-pub text_of-append : (marginals : Marginals) (xs ys : List Piece) → text_of marginals (xs ++ ys) ≡ text_of marginals xs ++ text_of marginals ys
-text_of-append marginals [] ys = refl
-text_of-append marginals (x ∷ xs) ys =
-    ap (λ text. text_of_piece marginals x ++ text) (text_of-append marginals xs ys)
-    ∙ sym (append_assoc (text_of_piece marginals x) (text_of marginals xs) (text_of marginals ys))
-
--- So are the marginals among them.
+-- The marginals are those of the first, and those of the others behind them.
 pub prints_of-append : (xs ys : List Piece) → prints_of (xs ++ ys) ≡ prints_of xs ++ prints_of ys
 prints_of-append [] ys = refl
-prints_of-append (Lines text ∷ xs) ys = prints_of-append xs ys
-prints_of-append (Marginal print ∷ xs) ys = ap (λ (prints : List Print). print ∷ prints) (prints_of-append xs ys)
+prints_of-append (x ∷ xs) ys =
+    ap (λ prints. prints_in x ++ prints) (prints_of-append xs ys) ∙ sym (append_assoc (prints_in x) (prints_of xs) (prints_of ys))
 
--- One piece more.
-pub text_of-piece : (marginals : Marginals) (pieces : List Piece) (piece : Piece) → text_of marginals (pieces ++ piece ∷ []) ≡ text_of marginals pieces ++ text_of_piece marginals piece
-text_of-piece marginals pieces piece =
-    text_of-append marginals pieces (piece ∷ []) ∙ ap (λ text. text_of marginals pieces ++ text) (append-nil (text_of_piece marginals piece))
+-- So are those of which ranges are told.
+pub ranges_of-append : (xs ys : List Piece) → ranges_of (xs ++ ys) ≡ ranges_of xs ++ ranges_of ys
+ranges_of-append [] ys = refl
+ranges_of-append (x ∷ xs) ys =
+    ap (λ prints. ranges_in x ++ prints) (ranges_of-append xs ys) ∙ sym (append_assoc (ranges_in x) (ranges_of xs) (ranges_of ys))
+
+-- What holds of each marginal holds of those of which ranges are told.
+pub ranges_of-all : (P : Print → Type 0) (pieces : List Piece) → All P (prints_of pieces) → All P (ranges_of pieces)
+ranges_of-all P [] all = all
+ranges_of-all P (Marginal print ∷ pieces) all = ranges_of-all P pieces (All-tail P print (prints_of pieces) all)
+ranges_of-all P (Ranges print ∷ pieces) all =
+    All-cons P print (ranges_of pieces) (All-head P print (prints_of pieces) all) (ranges_of-all P pieces (All-tail P print (prints_of pieces) all))
+ranges_of-all P (other ∷ pieces) all = ranges_of-all P pieces all

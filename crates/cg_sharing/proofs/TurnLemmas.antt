@@ -5,16 +5,15 @@ use Rattle.std.proofs.lemmas.Bool.{true≢false, eqb-false}
 use Rattle.std.proofs.lemmas.Option.{slice_get_within}
 use Rattle.std.proofs.lemmas.List.{length-set}
 use Rattle.std.proofs.lemmas.List.Elements.{All-nil, All-push}
-use Rattle.cg_meaning.specs.Curve.{Curve}
 use Rattle.cg_sharing.specs.Command.{Line}
 use Rattle.cg_sharing.specs.Versions.{State, StartModel, start_of}
 use Rattle.cg_sharing.specs.Journal.{Act, Entry, answer_of}
-use Rattle.cg_sharing.specs.Course.{Place, first_act, next}
+use Rattle.cg_sharing.specs.Course.{Calibration, Place, first_act, next}
 use Rattle.cg_sharing.specs.Interleaving.{World, place_of, with_place, world_after, advanced, turn, turns_taken, begins, begun, last_turns, run_out, interleaving, IsStop, AreTurns, IsInterleaving, some_stopped, TurnsDecide, IsOfSession, EntriesAreOfSessions}
 
 -- a turn of one session, in which want of memory may stop it
-abbrev pub IsTurn : Curve → ℕ → World → World → Type 0
-IsTurn curve session old new = (new ≡ turn curve session old) ⊎ IsStop session old new
+abbrev pub IsTurn : Calibration → ℕ → World → World → Type 0
+IsTurn calibration session old new = (new ≡ turn calibration session old) ⊎ IsStop session old new
 
 pub get-set_same : {A : Type 0} (xs : List A) (i : ℕ) (x y : A) → slice_get xs i ≡ Some x → slice_get (slice_set xs i y) i ≡ Some y
 get-set_same [] i x y at = absurd (cc)
@@ -52,64 +51,64 @@ drop-with_place zero place places = refl
 drop-with_place (suc i) place places = drop-set places i place
 
 -- A turn of no session does nothing,
-pub turn_passes : (curve : Curve) (session : ℕ) (world : World) → place_of session world.places ≡ None → turn curve session world ≡ world
-turn_passes curve session world none = ap (λ o. advanced curve session o world) none
+pub turn_passes : (calibration : Calibration) (session : ℕ) (world : World) → place_of session world.places ≡ None → turn calibration session world ≡ world
+turn_passes calibration session world none = ap (λ o. advanced calibration session o world) none
 
 -- and so does one of a session with no line left.
-pub turn_rests : (curve : Curve) (session : ℕ) (world : World) (place : Place) → place_of session world.places ≡ Some place → place.left ≡ [] → turn curve session world ≡ world
-turn_rests curve session world place here done =
+pub turn_rests : (calibration : Calibration) (session : ℕ) (world : World) (place : Place) → place_of session world.places ≡ Some place → place.left ≡ [] → turn calibration session world ≡ world
+turn_rests calibration session world place here done =
     let none : next place ≡ None = ap (λ ls. first_act place ls) done in
-    ap (λ o. advanced curve session o world) here ∙ ap (λ a. world_after curve session place a world) none
+    ap (λ o. advanced calibration session o world) here ∙ ap (λ a. world_after calibration session place a world) none
 
-act_others : (curve : Curve) (number session : ℕ) (place : Place) (act : Option Act) (world : World) → number ≢ session → place_of number (world_after curve session place act world).places ≡ place_of number world.places
-act_others curve number session place None world ne = refl
-act_others curve number session place (Some act) world ne = place_of-other number session _ world.places ne
+act_others : (calibration : Calibration) (number session : ℕ) (place : Place) (act : Option Act) (world : World) → number ≢ session → place_of number (world_after calibration session place act world).places ≡ place_of number world.places
+act_others calibration number session place None world ne = refl
+act_others calibration number session place (Some act) world ne = place_of-other number session _ world.places ne
 
-advanced_others : (curve : Curve) (number session : ℕ) (place : Option Place) (world : World) → number ≢ session → place_of number (advanced curve session place world).places ≡ place_of number world.places
-advanced_others curve number session None world ne = refl
-advanced_others curve number session (Some place) world ne = act_others curve number session place (next place) world ne
+advanced_others : (calibration : Calibration) (number session : ℕ) (place : Option Place) (world : World) → number ≢ session → place_of number (advanced calibration session place world).places ≡ place_of number world.places
+advanced_others calibration number session None world ne = refl
+advanced_others calibration number session (Some place) world ne = act_others calibration number session place (next place) world ne
 
 -- The other sessions stay where they are.
-pub turn_others : (curve : Curve) (number session : ℕ) (old new : World) → number ≢ session → IsTurn curve session old new → place_of number new.places ≡ place_of number old.places
-turn_others curve number session old new ne (inl is) = ap (λ (w : World). place_of number w.places) is ∙ advanced_others curve number session (place_of session old.places) old ne
-turn_others curve number session old new ne (inr stop) = ap (λ (w : World). place_of number w.places) stop.same ∙ place_of-other number session stop.after old.places ne
+pub turn_others : (calibration : Calibration) (number session : ℕ) (old new : World) → number ≢ session → IsTurn calibration session old new → place_of number new.places ≡ place_of number old.places
+turn_others calibration number session old new ne (inl is) = ap (λ (w : World). place_of number w.places) is ∙ advanced_others calibration number session (place_of session old.places) old ne
+turn_others calibration number session old new ne (inr stop) = ap (λ (w : World). place_of number w.places) stop.same ∙ place_of-other number session stop.after old.places ne
 
-act_behind : (curve : Curve) (session : ℕ) (place : Place) (act : Option Act) (world : World) → drop session (world_after curve session place act world).places ≡ drop session world.places
-act_behind curve session place None world = refl
-act_behind curve session place (Some act) world = drop-with_place session _ world.places
+act_behind : (calibration : Calibration) (session : ℕ) (place : Place) (act : Option Act) (world : World) → drop session (world_after calibration session place act world).places ≡ drop session world.places
+act_behind calibration session place None world = refl
+act_behind calibration session place (Some act) world = drop-with_place session _ world.places
 
-advanced_behind : (curve : Curve) (session : ℕ) (place : Option Place) (world : World) → drop session (advanced curve session place world).places ≡ drop session world.places
-advanced_behind curve session None world = refl
-advanced_behind curve session (Some place) world = act_behind curve session place (next place) world
+advanced_behind : (calibration : Calibration) (session : ℕ) (place : Option Place) (world : World) → drop session (advanced calibration session place world).places ≡ drop session world.places
+advanced_behind calibration session None world = refl
+advanced_behind calibration session (Some place) world = act_behind calibration session place (next place) world
 
 -- So do those behind it, in turns of its own.
-turn_behind : (curve : Curve) (session : ℕ) (old new : World) → IsTurn curve session old new → drop session new.places ≡ drop session old.places
-turn_behind curve session old new (inl is) = ap (λ (w : World). drop session w.places) is ∙ advanced_behind curve session (place_of session old.places) old
-turn_behind curve session old new (inr stop) = ap (λ (w : World). drop session w.places) stop.same ∙ drop-with_place session stop.after old.places
+turn_behind : (calibration : Calibration) (session : ℕ) (old new : World) → IsTurn calibration session old new → drop session new.places ≡ drop session old.places
+turn_behind calibration session old new (inl is) = ap (λ (w : World). drop session w.places) is ∙ advanced_behind calibration session (place_of session old.places) old
+turn_behind calibration session old new (inr stop) = ap (λ (w : World). drop session w.places) stop.same ∙ drop-with_place session stop.after old.places
 
-pub turns_behind : (curve : Curve) (session count : ℕ) (old new : World) → AreTurns curve (replicate count session) old new → drop session new.places ≡ drop session old.places
-turns_behind curve session zero old new turns = ap (λ (w : World). drop session w.places) turns
-turns_behind curve session (suc count) old new turns = turns_behind curve session count turns.0 new turns.2 ∙ turn_behind curve session old turns.0 turns.1
+pub turns_behind : (calibration : Calibration) (session count : ℕ) (old new : World) → AreTurns calibration (replicate count session) old new → drop session new.places ≡ drop session old.places
+turns_behind calibration session zero old new turns = ap (λ (w : World). drop session w.places) turns
+turns_behind calibration session (suc count) old new turns = turns_behind calibration session count turns.0 new turns.2 ∙ turn_behind calibration session old turns.0 turns.1
 
 -- turns and more turns
-pub AreTurns-append : (curve : Curve) (xs ys : List ℕ) (old mid new : World) → AreTurns curve xs old mid → AreTurns curve ys mid new → AreTurns curve (xs ++ ys) old new
-AreTurns-append curve [] ys old mid new first then = subst (λ (w : World). AreTurns curve ys w new) first then
-AreTurns-append curve (x ∷ xs) ys old mid new first then = (first.0, first.1, AreTurns-append curve xs ys first.0 mid new first.2 then)
+pub AreTurns-append : (calibration : Calibration) (xs ys : List ℕ) (old mid new : World) → AreTurns calibration xs old mid → AreTurns calibration ys mid new → AreTurns calibration (xs ++ ys) old new
+AreTurns-append calibration [] ys old mid new first then = subst (λ (w : World). AreTurns calibration ys w new) first then
+AreTurns-append calibration (x ∷ xs) ys old mid new first then = (first.0, first.1, AreTurns-append calibration xs ys first.0 mid new first.2 then)
 
 -- Turns of a session with no line left do nothing.
-pub turns_rest : (curve : Curve) (session count : ℕ) (world : World) (place : Place) → place_of session world.places ≡ Some place → place.left ≡ [] → AreTurns curve (replicate count session) world world
-turns_rest curve session zero world place here done = refl
-turns_rest curve session (suc count) world place here done = (world, inl (sym (turn_rests curve session world place here done)), turns_rest curve session count world place here done)
+pub turns_rest : (calibration : Calibration) (session count : ℕ) (world : World) (place : Place) → place_of session world.places ≡ Some place → place.left ≡ [] → AreTurns calibration (replicate count session) world world
+turns_rest calibration session zero world place here done = refl
+turns_rest calibration session (suc count) world place here done = (world, inl (sym (turn_rests calibration session world place here done)), turns_rest calibration session count world place here done)
 
 -- The turns as they are without a stop.
-pub turns_are : (curve : Curve) (turns : List ℕ) (world : World) → AreTurns curve turns world (turns_taken curve turns world)
-turns_are curve [] world = refl
-turns_are curve (session ∷ turns) world = (turn curve session world, inl refl, turns_are curve turns (turn curve session world))
+pub turns_are : (calibration : Calibration) (turns : List ℕ) (world : World) → AreTurns calibration turns world (turns_taken calibration turns world)
+turns_are calibration [] world = refl
+turns_are calibration (session ∷ turns) world = (turn calibration session world, inl refl, turns_are calibration turns (turn calibration session world))
 
-pub interleaving_is : (curve : Curve) (models : List StartModel) (scripts : List (List Line)) (turns : List ℕ) → IsInterleaving curve models scripts turns (interleaving curve models scripts turns)
-interleaving_is curve models scripts turns =
-    let met = turns_taken curve turns (begun curve models scripts) in
-    record { met = met; taken = turns_are curve turns (begun curve models scripts); run_out = turns_are curve (last_turns 1 met.places) met }
+pub interleaving_is : (calibration : Calibration) (models : List StartModel) (scripts : List (List Line)) (turns : List ℕ) → IsInterleaving calibration models scripts turns (interleaving calibration models scripts turns)
+interleaving_is calibration models scripts turns =
+    let met = turns_taken calibration turns (begun calibration models scripts) in
+    record { met = met; taken = turns_are calibration turns (begun calibration models scripts); run_out = turns_are calibration (last_turns 1 met.places) met }
 
 -- Want of memory has stopped the session.
 pub record IsGone (session : ℕ) (world : World) : Type 0 where
@@ -126,31 +125,31 @@ gone_stop session old new stop = record {
   stopped = stop.stopped;
 }
 
-gone_own : (curve : Curve) (session : ℕ) (old new : World) → IsGone session old → IsTurn curve session old new → new ≡ old
-gone_own curve session old new gone (inl is) = is ∙ turn_rests curve session old gone.place gone.here gone.none
-gone_own curve session old new gone (inr stop) =
+gone_own : (calibration : Calibration) (session : ℕ) (old new : World) → IsGone session old → IsTurn calibration session old new → new ≡ old
+gone_own calibration session old new gone (inl is) = is ∙ turn_rests calibration session old gone.place gone.here gone.none
+gone_own calibration session old new gone (inr stop) =
     let same : stop.before ≡ gone.place = cc (stop.here, gone.here) in
     absurd (true≢false (sym gone.stopped ∙ ap (λ (p : Place). p.stopped) (sym same) ∙ stop.going))
 
 -- It stays so.
-gone_turn : (curve : Curve) (number session : ℕ) (old new : World) → IsGone number old → IsTurn curve session old new → IsGone number new
-gone_turn curve number session old new gone step =
+gone_turn : (calibration : Calibration) (number session : ℕ) (old new : World) → IsGone number old → IsTurn calibration session old new → IsGone number new
+gone_turn calibration number session old new gone step =
     elim (nat_eq number session) as (λ b. nat_eq number session ≡ b → IsGone number new) [
       | true ↦ λ is.
           let same = eqb-true number session is in
-          let own = subst (λ n. IsTurn curve n old new) (sym same) step in
-          subst (λ (w : World). IsGone number w) (sym (gone_own curve number old new gone own)) gone
+          let own = subst (λ n. IsTurn calibration n old new) (sym same) step in
+          subst (λ (w : World). IsGone number w) (sym (gone_own calibration number old new gone own)) gone
       | false ↦ λ is. record {
         place = gone.place;
-        here = turn_others curve number session old new (eqb-false number session is) step ∙ gone.here;
+        here = turn_others calibration number session old new (eqb-false number session is) step ∙ gone.here;
         none = gone.none;
         stopped = gone.stopped;
       }
     ] refl
 
-gone_turns : (curve : Curve) (number : ℕ) (turns : List ℕ) (old new : World) → IsGone number old → AreTurns curve turns old new → IsGone number new
-gone_turns curve number [] old new gone taken = subst (λ (w : World). IsGone number w) (sym taken) gone
-gone_turns curve number (session ∷ turns) old new gone taken = gone_turns curve number turns taken.0 new (gone_turn curve number session old taken.0 gone taken.1) taken.2
+gone_turns : (calibration : Calibration) (number : ℕ) (turns : List ℕ) (old new : World) → IsGone number old → AreTurns calibration turns old new → IsGone number new
+gone_turns calibration number [] old new gone taken = subst (λ (w : World). IsGone number w) (sym taken) gone
+gone_turns calibration number (session ∷ turns) old new gone taken = gone_turns calibration number turns taken.0 new (gone_turn calibration number session old taken.0 gone taken.1) taken.2
 
 or_true : (b : Bool) → (b || true) ≡ true
 or_true true = refl
@@ -166,21 +165,21 @@ gone_any zero world place here is = absurd (cc)
 gone_any (suc i) world place here is = one_any world.places i place here is
 
 -- Where no session is stopped at the end, none was.
-no_stop : (curve : Curve) (xs ys : List ℕ) (old mid end : World) → AreTurns curve xs old mid → AreTurns curve ys mid end → some_stopped end.places ≡ false → mid ≡ turns_taken curve xs old
-no_stop curve [] ys old mid end first then none = first
-no_stop curve (x ∷ xs) ys old mid end first then none =
+no_stop : (calibration : Calibration) (xs ys : List ℕ) (old mid end : World) → AreTurns calibration xs old mid → AreTurns calibration ys mid end → some_stopped end.places ≡ false → mid ≡ turns_taken calibration xs old
+no_stop calibration [] ys old mid end first then none = first
+no_stop calibration (x ∷ xs) ys old mid end first then none =
     elim (first.1) [
-      | inl is ↦ no_stop curve xs ys first.0 mid end first.2 then none ∙ ap (λ w. turns_taken curve xs w) is
+      | inl is ↦ no_stop calibration xs ys first.0 mid end first.2 then none ∙ ap (λ w. turns_taken calibration xs w) is
       | inr stop ↦
-          let gone = gone_turns curve x ys mid end (gone_turns curve x xs first.0 mid (gone_stop x old first.0 stop) first.2) then in
+          let gone = gone_turns calibration x ys mid end (gone_turns calibration x xs first.0 mid (gone_stop x old first.0 stop) first.2) then in
           absurd (true≢false (sym (gone_any x end gone.place gone.here gone.stopped) ∙ none))
     ]
 
 pub turns_decide_all : TurnsDecide
-turns_decide_all = λ curve models scripts turns end is none.
-    let first = no_stop curve turns (last_turns 1 is.met.places) (begun curve models scripts) is.met end is.taken is.run_out none in
-    let last = no_stop curve (last_turns 1 is.met.places) [] is.met end end is.run_out refl none in
-    last ∙ ap (λ w. run_out curve w) first
+turns_decide_all = λ calibration models scripts turns end is none.
+    let first = no_stop calibration turns (last_turns 1 is.met.places) (begun calibration models scripts) is.met end is.taken is.run_out none in
+    let last = no_stop calibration (last_turns 1 is.met.places) [] is.met end end is.run_out refl none in
+    last ∙ ap (λ w. run_out calibration w) first
 
 -- There are so many sessions, and each entry is of one of them.
 record AreOfSessions (count : ℕ) (world : World) : Type 0 where
@@ -191,9 +190,9 @@ one_of : (session : ℕ) (places : List Place) (place : Place) → place_of sess
 one_of zero places place here = absurd (cc)
 one_of (suc i) places place here = let within = slice_get_within places i place here in (omega arith, omega (arith, within))
 
-of_act : (curve : Curve) (count session : ℕ) (place : Place) (act : Option Act) (world : World) → place_of session world.places ≡ Some place → AreOfSessions count world → AreOfSessions count (world_after curve session place act world)
-of_act curve count session place None world here are = are
-of_act curve count session place (Some act) world here are =
+of_act : (calibration : Calibration) (count session : ℕ) (place : Place) (act : Option Act) (world : World) → place_of session world.places ≡ Some place → AreOfSessions count world → AreOfSessions count (world_after calibration session place act world)
+of_act calibration count session place None world here are = are
+of_act calibration count session place (Some act) world here are =
     let entry : Entry = record { seat = session; act = act; answer = answer_of world.state act } in
     let one = one_of session world.places place here in
     record {
@@ -201,26 +200,26 @@ of_act curve count session place (Some act) world here are =
       entries = All-push (IsOfSession count) world.journal entry are.entries (one.0, omega (arith, one.1, are.places));
     }
 
-of_place : (curve : Curve) (count session : ℕ) (place : Option Place) (world : World) → place_of session world.places ≡ place → AreOfSessions count world → AreOfSessions count (advanced curve session place world)
-of_place curve count session None world here are = are
-of_place curve count session (Some place) world here are = of_act curve count session place (next place) world here are
+of_place : (calibration : Calibration) (count session : ℕ) (place : Option Place) (world : World) → place_of session world.places ≡ place → AreOfSessions count world → AreOfSessions count (advanced calibration session place world)
+of_place calibration count session None world here are = are
+of_place calibration count session (Some place) world here are = of_act calibration count session place (next place) world here are
 
-of_turn : (curve : Curve) (count session : ℕ) (old new : World) → AreOfSessions count old → IsTurn curve session old new → AreOfSessions count new
-of_turn curve count session old new are (inl is) = subst (λ (w : World). AreOfSessions count w) (sym is) (of_place curve count session (place_of session old.places) old refl are)
-of_turn curve count session old new are (inr stop) =
+of_turn : (calibration : Calibration) (count session : ℕ) (old new : World) → AreOfSessions count old → IsTurn calibration session old new → AreOfSessions count new
+of_turn calibration count session old new are (inl is) = subst (λ (w : World). AreOfSessions count w) (sym is) (of_place calibration count session (place_of session old.places) old refl are)
+of_turn calibration count session old new are (inr stop) =
     subst (λ (w : World). AreOfSessions count w) (sym stop.same) (record { places = length-with_place session stop.after old.places ∙ are.places; entries = are.entries })
 
-of_turns : (curve : Curve) (count : ℕ) (turns : List ℕ) (old new : World) → AreOfSessions count old → AreTurns curve turns old new → AreOfSessions count new
-of_turns curve count [] old new are taken = subst (λ (w : World). AreOfSessions count w) (sym taken) are
-of_turns curve count (session ∷ turns) old new are taken = of_turns curve count turns taken.0 new (of_turn curve count session old taken.0 are taken.1) taken.2
+of_turns : (calibration : Calibration) (count : ℕ) (turns : List ℕ) (old new : World) → AreOfSessions count old → AreTurns calibration turns old new → AreOfSessions count new
+of_turns calibration count [] old new are taken = subst (λ (w : World). AreOfSessions count w) (sym taken) are
+of_turns calibration count (session ∷ turns) old new are taken = of_turns calibration count turns taken.0 new (of_turn calibration count session old taken.0 are taken.1) taken.2
 
-length-begins : (curve : Curve) (start : State) (session : ℕ) (scripts : List (List Line)) → length (begins curve start session scripts) ≡ length scripts
-length-begins curve start session [] = refl
-length-begins curve start session (script ∷ scripts) = ap (λ n. suc n) (length-begins curve start (session + 1) scripts)
+length-begins : (calibration : Calibration) (start : State) (session : ℕ) (scripts : List (List Line)) → length (begins calibration start session scripts) ≡ length scripts
+length-begins calibration start session [] = refl
+length-begins calibration start session (script ∷ scripts) = ap (λ n. suc n) (length-begins calibration start (session + 1) scripts)
 
 pub all_of_sessions : EntriesAreOfSessions
-all_of_sessions = λ curve models scripts turns end is.
+all_of_sessions = λ calibration models scripts turns end is.
     let count = length scripts in
-    let first : AreOfSessions count (begun curve models scripts) =
-    record { places = length-begins curve (start_of models) 1 scripts; entries = All-nil (IsOfSession count) } in
-    (of_turns curve count (last_turns 1 is.met.places) is.met end (of_turns curve count turns (begun curve models scripts) is.met first is.taken) is.run_out).entries
+    let first : AreOfSessions count (begun calibration models scripts) =
+    record { places = length-begins calibration (start_of models) 1 scripts; entries = All-nil (IsOfSession count) } in
+    (of_turns calibration count (last_turns 1 is.met.places) is.met end (of_turns calibration count turns (begun calibration models scripts) is.met first is.taken) is.run_out).entries

@@ -12,6 +12,9 @@ pub data Command : Type 0 where
   Change : Edit → Command
   Commit : Name → Command
   Print : Name → Command
+  Ranges : Name → Command
+  Model : Command
+  Work : Command
 
 -- a command, and its line in the script, counted from 1
 pub record Line : Type 0 where

@@ -2,7 +2,7 @@ pub mod Edit
 pub mod Versions
 pub mod Journal
 pub mod Command
-pub mod Texts
+pub mod Cause
 pub mod Pieces
 pub mod Course
 pub mod Interleaving

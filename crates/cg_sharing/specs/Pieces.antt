@@ -1,10 +1,11 @@
--- What a session writes, piece by piece: the transcript and the marginals in it are two views of one list. chron's own.
-use Rattle.std.specs.Prelude.{ℕ, List, [], ◌∷◌, ◌++◌, Option}
-use Rattle.cg_meaning.specs.Tree.{Name, Tree, Chronology, root_of}
-use Rattle.cg_meaning.specs.Scene.{Scene}
-use Rattle.cg_sharing.specs.Texts.{marginal_lines}
+-- What a session tells, piece by piece. chron's own.
+use Rattle.std.specs.Prelude.{ℕ, List, [], ◌∷◌}
+use Rattle.std.specs.List.{flat_map}
+use Rattle.cg_meaning.specs.Tree.{Name, Chronology}
+use Rattle.cg_meaning.specs.Scene.{Grid, Scene}
+use Rattle.cg_sharing.specs.Cause.{Cause}
 
--- A marginal that is printed: of an event of a version's model, where it is dated; the event by its name and its number.
+-- A marginal that is computed: of an event of a version's model, where it is dated; the event by its name and its number.
 pub record Print : Type 0 where
   pub name : Name
   pub version : ℕ
@@ -12,29 +13,35 @@ pub record Print : Type 0 where
   pub scene : Scene
   pub event : ℕ
 
--- lines as they are, or those of a marginal
+-- The session's number; the version that it went to, made or committed; its grid; the line of a command that is refused,
+-- and why; a marginal by its pairs of bounds, or by the years that cover most of it; the text of a version's model; and the
+-- counts of its claims.
 pub data Piece : Type 0 where
-  Lines : List ℕ → Piece
+  Begun : ℕ → Piece
+  At : ℕ → Piece
+  Made : ℕ → Piece
+  Committed : ℕ → Piece
+  On : Grid → Piece
+  Refused : ℕ → Cause → Piece
   Marginal : Print → Piece
+  Ranges : Print → Piece
+  Model : ℕ → Chronology → Piece
+  Work : Piece
 
--- the marginal of a tree's event in a scene: a pair for each cell, or nothing where it is impossible
-abbrev pub Marginals : Type 0
-Marginals = Tree → Scene → ℕ → Option (List (ℕ × ℕ))
+-- the marginals of one piece, of which pairs or ranges are told
+abbrev pub prints_in : Piece → List Print
+prints_in (Marginal print) = print ∷ []
+prints_in (Ranges print) = print ∷ []
+prints_in other = []
 
-abbrev pub marginal_of : Marginals → Print → Option (List (ℕ × ℕ))
-marginal_of marginals print = marginals (root_of print.chronology) print.scene print.event
+-- those of which ranges are told
+abbrev pub ranges_in : Piece → List Print
+ranges_in (Ranges print) = print ∷ []
+ranges_in other = []
 
-abbrev pub text_of_piece : Marginals → Piece → List ℕ
-text_of_piece marginals (Lines text) = text
-text_of_piece marginals (Marginal print) = marginal_lines print.scene.grid print.name print.version (marginal_of marginals print)
-
--- the text of all pieces
-abbrev pub text_of : Marginals → List Piece → List ℕ
-text_of marginals [] = []
-text_of marginals (piece ∷ pieces) = text_of_piece marginals piece ++ text_of marginals pieces
-
--- the marginals among them
+-- the same of all pieces
 abbrev pub prints_of : List Piece → List Print
-prints_of [] = []
-prints_of (Lines text ∷ pieces) = prints_of pieces
-prints_of (Marginal print ∷ pieces) = print ∷ prints_of pieces
+prints_of pieces = flat_map prints_in pieces
+
+abbrev pub ranges_of : List Piece → List Print
+ranges_of pieces = flat_map ranges_in pieces

@@ -1,7 +1,7 @@
 ghost use Rattle.cg_sharing.specs.Interleaving.{EachRunsToItsEnd, TurnsDecide, EntriesAreOfSessions};
 
 /// The law that whatever turns the sessions take, the journal is legal, and each session runs to its end in a course of
-/// its own script, with that course's transcript. Does nothing.
+/// its own script. Does nothing.
 pub fn each_session_runs_to_its_end()
     ensures { EachRunsToItsEnd }
 {}
