@@ -1,5 +1,10 @@
-pub mod TitleLemmas
-pub mod YearLemmas
-pub mod CommandLemmas
 pub mod LineLemmas
+pub mod FieldLemmas
+pub mod WordLemmas
+pub mod ShownLemmas
+pub mod MemoryLemmas
+pub mod OutcomeLemmas
+pub mod LineOutcomeLemmas
+pub mod AnswerLemmas
 pub mod ScriptLemmas
+pub mod DecidedLemmas

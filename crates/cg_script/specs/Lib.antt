@@ -1,5 +1,8 @@
-pub mod Form
-pub mod Command
+pub mod Lines
+pub mod Words
 pub mod Written
-pub mod Reading
+pub mod Says
+pub mod Script
+pub mod Command
+pub mod View
 pub mod Stored

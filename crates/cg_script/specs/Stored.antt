@@ -11,7 +11,7 @@ use Rattle.cg_edit.specs.Plain.{edit_in}
 use Rattle.cg_edit.specs.declared.edit.Edit.{Edit}
 use Rattle.cg_edit.specs.declared.edit.Edit.TheVariants.{Set, Add, InsertBefore, Drop, Rename}
 use Rattle.cg_script.specs.declared.command.Command.{Command}
-use Rattle.cg_script.specs.declared.command.Command.TheVariants.{Grid, Open, Take, Undo, Change, Commit, Print}
+use Rattle.cg_script.specs.declared.command.Command.TheVariants.{Grid, Open, Take, Undo, Change, Commit, Print, Ranges, Model, Work}
 use Rattle.cg_script.specs.contracts.command.Command as command
 use Rattle.cg_script.specs.Command.{command_in}
 
@@ -32,6 +32,9 @@ command_back spec.Undo = Undo
 command_back (spec.Change edit) = Change (edit_back edit)
 command_back (spec.Commit name) = Commit name
 command_back (spec.Print event) = Print event
+command_back (spec.Ranges event) = Ranges event
+command_back spec.Model = Model
+command_back spec.Work = Work
 
 dating_again : (d : tree.Dating) → dating_of (dating_back d) ≡ d
 dating_again tree.Free = refl
@@ -54,6 +57,9 @@ command_again spec.Undo = refl
 command_again (spec.Change edit) = ap (λ e. spec.Change e) (edit_again edit)
 command_again (spec.Commit name) = refl
 command_again (spec.Print event) = refl
+command_again (spec.Ranges event) = refl
+command_again spec.Model = refl
+command_again spec.Work = refl
 
 abbrev pub coded_command : Coded spec.Command
 coded_command = code_by Command command.the_row.coded command_back command_in command_again

@@ -5,7 +5,7 @@ use cg_num::Year;
 /// A command of a session.
 #[derive(Drop)]
 pub enum Command {
-    /// Sets the grid from an older year to a younger one, as the script gives them. Each is 0 to 60,000 cal BP.
+    /// Sets the grid from an older year to a younger one, as the script gives them.
     Grid(Year, Year),
     /// Goes to the head of the model of this name.
     Open(Name),
@@ -19,4 +19,10 @@ pub enum Command {
     Commit(Name),
     /// Prints the marginal of the event of this name.
     Print(Name),
+    /// Prints the years that cover most of it.
+    Ranges(Name),
+    /// Prints the fingerprint and the text of the version's model.
+    Model,
+    /// Prints the counts of the session's claims.
+    Work,
 }

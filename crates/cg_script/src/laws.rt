@@ -1,6 +1,6 @@
-ghost use Rattle.cg_script.specs.Form.{IsOneScript};
+ghost use Rattle.cg_script.specs.Script.{EachIsDecided};
 
-/// The law that bytes say one script at most. Does nothing.
-pub fn bytes_say_one_script()
-    ensures { IsOneScript }
+/// The law that each list of bytes either is exactly one script or has exactly one fault. Does nothing.
+pub fn each_script_is_decided()
+    ensures { EachIsDecided }
 {}

@@ -1,19 +1,23 @@
-//! The plain Form of session scripts, and its reader.
+//! The reader of session scripts: the commands that they say, each with its line.
 //!
-//! A script is a list of at most 1,000 commands, one a line, at most 200 of them prints. The lines end in LF, and the
-//! last LF may be missing. The reader answers `ScriptFault::Form` exactly for bytes that are not in the Form, want of
-//! memory aside.
+//! A script holds one command a line; blank lines and remarks are skipped. At most 1,000 commands stand in it, and at
+//! most 200 of them print. Bytes are one script or have one fault, and the reader tells which: the first line that says
+//! no command, and there the first cause that holds, want of memory aside.
 #![tactic(auto)]
 
-mod change;
 mod command;
 mod fault;
+mod field;
 mod laws;
 mod line;
+mod lines;
+mod number;
+mod quoted;
+mod room;
 mod script;
-mod written;
+mod word;
 
 pub use command::Command;
-pub use fault::ScriptFault;
-pub use laws::bytes_say_one_script;
+pub use fault::{ScriptCause, ScriptFault, ScriptLimit};
+pub use laws::each_script_is_decided;
 pub use script::{Script, read_script};
