@@ -1,0 +1,4 @@
+pub mod Cause
+pub mod Status
+pub mod Texts
+pub mod Transcript
