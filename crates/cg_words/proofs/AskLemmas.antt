@@ -1,7 +1,7 @@
 -- Lists ask for one request, and words for one thing.
 use Rattle.std.proofs.Common.{◌≡◌, ℕ, ◌≤◌, List, length, All, AllPairs, Option, Some, None, IfNone, Result, Ok, Err, IfOk, sym, ap, ◌∙◌, subst, arith}
 use Rattle.cg_curve.specs.Curves.{IsSameCurveName}
-use Rattle.cg_words.specs.Words.{Lists, Request, NamedFile, IsTurn, AreNamed, AreSessions, AreTurns, MayBe, AskFor, AskForOneThing, AreNoWords, AreLists, IsRequest}
+use Rattle.cg_words.specs.Words.{Lists, Request, NamedFile, IsTurn, AreNamed, AreSessions, AreTurns, MayBe, MayBeCacheSize, AskFor, AskForOneThing, AreNoWords, AreLists, IsRequest}
 use Rattle.cg_words.specs.Reading.{HasNoLists, Nothing}
 use Rattle.cg_words.proofs.ListsLemmas.{one-lists}
 use Rattle.cg_words.proofs.FilesLemmas.{one-named, session-parts}
@@ -14,16 +14,22 @@ one-or-none Are one None x y first second = first ∙ sym second
 one-or-none Are one (Some list) x y first second = one list x y first second
 
 -- two requests of the same things
-same-requests : (x y : Request) → x.curves ≡ y.curves → x.models ≡ y.models → x.sessions ≡ y.sessions → x.turns ≡ y.turns → x ≡ y
-same-requests x y curves models sessions turns =
-    ap (λ c. record { curves = c; models = x.models; sessions = x.sessions; turns = x.turns }) curves
-    ∙ ap (λ m. record { curves = y.curves; models = m; sessions = x.sessions; turns = x.turns }) models
-    ∙ ap (λ s. record { curves = y.curves; models = y.models; sessions = s; turns = x.turns }) sessions
-    ∙ ap (λ t. record { curves = y.curves; models = y.models; sessions = y.sessions; turns = t }) turns
+same-requests : (x y : Request) → x.curves ≡ y.curves → x.models ≡ y.models → x.sessions ≡ y.sessions → x.turns ≡ y.turns → x.cache ≡ y.cache → x ≡ y
+same-requests x y curves models sessions turns cache =
+    ap (λ c. record { curves = c; models = x.models; sessions = x.sessions; turns = x.turns; cache = x.cache }) curves
+    ∙ ap (λ m. record { curves = y.curves; models = m; sessions = x.sessions; turns = x.turns; cache = x.cache }) models
+    ∙ ap (λ s. record { curves = y.curves; models = y.models; sessions = s; turns = x.turns; cache = x.cache }) sessions
+    ∙ ap (λ t. record { curves = y.curves; models = y.models; sessions = y.sessions; turns = t; cache = x.cache }) turns
+    ∙ ap (λ k. record { curves = y.curves; models = y.models; sessions = y.sessions; turns = y.turns; cache = k }) cache
 
 -- the sessions of a list are one thing
 pub one-sessions : (list : List ℕ) (x y : List (List ℕ)) → AreSessions list x → AreSessions list y → x ≡ y
 one-sessions list x y first second = sym (session-parts list x first) ∙ session-parts list y second
+
+-- a size that may be left out is one size
+one-size : (text : Option (List ℕ)) (x y : ℕ) → MayBeCacheSize text x → MayBeCacheSize text y → x ≡ y
+one-size None x y first second = first ∙ sym second
+one-size (Some text) x y first second = first.number ∙ sym second.number
 
 -- lists ask for one request
 pub one-request : (lists : Lists) (x y : Request) → AskFor lists x → AskFor lists y → x ≡ y
@@ -35,6 +41,7 @@ one-request lists x y first second =
     (one-named 8 ◌≡◌ lists.models x.models y.models first.models second.models)
     sessions
     (one-or-none (AreTurns (length x.sessions)) (one-turns (length x.sessions)) lists.turns x.turns y.turns first.turns turns)
+    (one-size lists.cache x.cache y.cache first.cache second.cache)
 
 -- words ask for one thing at most
 pub one-thing : AskForOneThing
@@ -60,6 +67,11 @@ kept-turns : (sessions : ℕ) (list : Option (List ℕ)) (turns : List ℕ) → 
 kept-turns sessions None turns h = subst (KeptTurns sessions) (sym h) (record { few = omega arith; known = λ k d below. absurd (omega arith) })
 kept-turns sessions (Some list) turns h = record { few = h.few; known = h.known }
 
+-- the cache is small, left out or not
+kept-cache : (text : Option (List ℕ)) (size : ℕ) → MayBeCacheSize text size → size ≤ 256
+kept-cache None size h = omega (arith, h)
+kept-cache (Some text) size h = h.few
+
 -- what is asked for is a request
 pub ask-request : (lists : Lists) (request : Request) → AskFor lists request → IsRequest request
 ask-request lists request h =
@@ -76,6 +88,7 @@ ask-request lists request h =
       session_files = h.sessions.files;
       few_turns = turns.few;
       turns_known = turns.known;
+      small_cache = kept-cache lists.cache request.cache h.cache;
     }
 
 -- without turns there is no request

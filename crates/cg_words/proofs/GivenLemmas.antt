@@ -21,7 +21,8 @@ given_in (word ∷ list ∷ others) = record { option = word; list = list } ∷ 
 -- the test of an option
 pub Decides-is_option : (word : List ℕ) → Decides (is_option word) (IsOption word)
 Decides-is_option word =
-    Decides-or _ _ (bytes_eq-Decides word (codes "--curves")) (Decides-or _ _ (bytes_eq-Decides word (codes "--models")) (Decides-or _ _ (bytes_eq-Decides word (codes "--sessions")) (bytes_eq-Decides word (codes "--turns"))))
+    Decides-or _ _ (bytes_eq-Decides word (codes "--curves")) (Decides-or _ _ (bytes_eq-Decides word (codes "--models")) (Decides-or _ _ (bytes_eq-Decides word (codes "--sessions"))
+    (Decides-or _ _ (bytes_eq-Decides word (codes "--turns")) (bytes_eq-Decides word (codes "--cache")))))
 
 -- what was not found is left out
 pub left-out : (option : List ℕ) (words : List (List ℕ)) → list_of option words ≡ None → All (λ one. one.option ≢ option) (given_in words)

@@ -12,6 +12,7 @@ pub record AreFound (options : List (List ℕ)) (lists : Lists) : Type 0 where
   pub models : list_of (codes "--models") options ≡ Some lists.models
   pub sessions : list_of (codes "--sessions") options ≡ Some lists.sessions
   pub turns : list_of (codes "--turns") options ≡ lists.turns
+  pub cache : list_of (codes "--cache") options ≡ lists.cache
 
 -- what was found or not is given or left out
 may-be-given : (option : List ℕ) (words : List (List ℕ)) (list : Option (List ℕ)) → list_of option words ≡ list → MayBeGiven (given_in words) option list
@@ -29,6 +30,7 @@ lists-found options lists h = record {
   models = is_given (codes "--models") lists.models options h.models;
   sessions = is_given (codes "--sessions") lists.sessions options h.sessions;
   turns = may-be-given (codes "--turns") options lists.turns h.turns;
+  cache = may-be-given (codes "--cache") options lists.cache h.cache;
 }
 
 -- an option that may be left out
@@ -44,15 +46,17 @@ find-lists words lists h = record {
   models = found (codes "--models") lists.models h.given h.once h.models;
   sessions = found (codes "--sessions") lists.sessions h.given h.once h.sessions;
   turns = may-find words lists h (codes "--turns") lists.turns h.turns;
+  cache = may-find words lists h (codes "--cache") lists.cache h.cache;
 }
 
 -- two records of the same lists
-same-lists : (x y : Lists) → x.curves ≡ y.curves → x.models ≡ y.models → x.sessions ≡ y.sessions → x.turns ≡ y.turns → x ≡ y
-same-lists x y curves models sessions turns =
-    ap (λ c. record { curves = c; models = x.models; sessions = x.sessions; turns = x.turns }) curves
-    ∙ ap (λ m. record { curves = y.curves; models = m; sessions = x.sessions; turns = x.turns }) models
-    ∙ ap (λ s. record { curves = y.curves; models = y.models; sessions = s; turns = x.turns }) sessions
-    ∙ ap (λ t. record { curves = y.curves; models = y.models; sessions = y.sessions; turns = t }) turns
+same-lists : (x y : Lists) → x.curves ≡ y.curves → x.models ≡ y.models → x.sessions ≡ y.sessions → x.turns ≡ y.turns → x.cache ≡ y.cache → x ≡ y
+same-lists x y curves models sessions turns cache =
+    ap (λ c. record { curves = c; models = x.models; sessions = x.sessions; turns = x.turns; cache = x.cache }) curves
+    ∙ ap (λ m. record { curves = y.curves; models = m; sessions = x.sessions; turns = x.turns; cache = x.cache }) models
+    ∙ ap (λ s. record { curves = y.curves; models = y.models; sessions = s; turns = x.turns; cache = x.cache }) sessions
+    ∙ ap (λ t. record { curves = y.curves; models = y.models; sessions = y.sessions; turns = t; cache = x.cache }) turns
+    ∙ ap (λ k. record { curves = y.curves; models = y.models; sessions = y.sessions; turns = y.turns; cache = k }) cache
 
 -- what is found is found once
 pub one-finding : (options others : List (List ℕ)) (x y : Lists) → options ≡ others → AreFound options x → AreFound others y → x ≡ y
@@ -60,6 +64,7 @@ one-finding options others x y e first second =
     let models : ◌≡◌ {A = Option (List ℕ)} (Some x.models) (Some y.models) = sym first.models ∙ ap (λ ws. list_of (codes "--models") ws) e ∙ second.models in
     let sessions : ◌≡◌ {A = Option (List ℕ)} (Some x.sessions) (Some y.sessions) = sym first.sessions ∙ ap (λ ws. list_of (codes "--sessions") ws) e ∙ second.sessions in
     same-lists x y (sym first.curves ∙ ap (λ ws. list_of (codes "--curves") ws) e ∙ second.curves) (cc) (cc) (sym first.turns ∙ ap (λ ws. list_of (codes "--turns") ws) e ∙ second.turns)
+    (sym first.cache ∙ ap (λ ws. list_of (codes "--cache") ws) e ∙ second.cache)
 
 -- words have one set of lists at most
 pub one-lists : (words : List (List ℕ)) (x y : Lists) → AreLists words x → AreLists words y → x ≡ y

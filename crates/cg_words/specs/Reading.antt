@@ -13,7 +13,9 @@ list_of option (word ∷ []) = None
 list_of option (word ∷ list ∷ others) = if bytes_eq word option then Some list else list_of option others
 
 abbrev pub is_option : List ℕ → Bool
-is_option word = bytes_eq word (codes "--curves") || (bytes_eq word (codes "--models") || (bytes_eq word (codes "--sessions") || bytes_eq word (codes "--turns")))
+is_option word =
+    bytes_eq word (codes "--curves") || (bytes_eq word (codes "--models") || (bytes_eq word (codes "--sessions")
+    || (bytes_eq word (codes "--turns") || bytes_eq word (codes "--cache"))))
 
 -- options, each with a word behind it, and each at most once
 abbrev pub are_options : List (List ℕ) → Bool
@@ -67,6 +69,7 @@ lists_in lists = record {
   models = lists.models.now;
   sessions = lists.sessions.now;
   turns = option_map (λ list. list.now) lists.turns;
+  cache = option_map (λ list. list.now) lists.cache;
 }
 
 -- the words have no lists

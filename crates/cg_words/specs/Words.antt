@@ -11,13 +11,14 @@ pub record NamedFile : Type 0 where
   pub name : List ℕ
   pub file : List ℕ
 
--- The files of the curves, those of the models, those of the session scripts, and the numbers of the sessions whose
--- turns come one after another.
+-- The files of the curves, those of the models, those of the session scripts, the numbers of the sessions whose turns
+-- come one after another, and how many results the cache may keep.
 pub record Request : Type 0 where
   pub curves : List NamedFile
   pub models : List NamedFile
   pub sessions : List (List ℕ)
   pub turns : List ℕ
+  pub cache : ℕ
 
 -- commas part the files of a list
 pub record IsFile (file : List ℕ) : Type 0 where
@@ -78,12 +79,24 @@ abbrev pub MayBe : {A : Type 0} → (List ℕ → List A → Type 0) → Option 
 MayBe Are None items = items ≡ []
 MayBe Are (Some list) items = Are list items
 
--- The lists of the four options. Two of them may be left out.
+-- The text says how many results the cache may keep.
+pub record IsCacheSize (text : List ℕ) (size : ℕ) : Type 0 where
+  pub numeral : IsNumeral text
+  pub number : size ≡ number_of text
+  pub few : size ≤ 256
+
+-- a size that may be left out, and is then 64
+abbrev pub MayBeCacheSize : Option (List ℕ) → ℕ → Type 0
+MayBeCacheSize None size = size ≡ 64
+MayBeCacheSize (Some text) size = IsCacheSize text size
+
+-- The lists of the five options, of which that of the cache is one number. Three of them may be left out.
 pub record Lists : Type 0 where
   pub curves : Option (List ℕ)
   pub models : List ℕ
   pub sessions : List ℕ
   pub turns : Option (List ℕ)
+  pub cache : Option (List ℕ)
 
 -- The lists ask for this.
 pub record AskFor (lists : Lists) (request : Request) : Type 0 where
@@ -91,6 +104,7 @@ pub record AskFor (lists : Lists) (request : Request) : Type 0 where
   pub models : AreNamed 8 ◌≡◌ lists.models request.models
   pub sessions : AreSessions lists.sessions request.sessions
   pub turns : MayBe (AreTurns (length request.sessions)) lists.turns request.turns
+  pub cache : MayBeCacheSize lists.cache request.cache
 
 -- an option, and the list behind it
 pub record Given : Type 0 where
@@ -102,7 +116,9 @@ words_of [] = []
 words_of (given ∷ others) = given.option ∷ given.list ∷ words_of others
 
 abbrev pub IsOption : List ℕ → Type 0
-IsOption word = (word ≡ codes "--curves") ⊎ (word ≡ codes "--models") ⊎ (word ≡ codes "--sessions") ⊎ (word ≡ codes "--turns")
+IsOption word =
+    (word ≡ codes "--curves") ⊎ (word ≡ codes "--models") ⊎ (word ≡ codes "--sessions")
+    ⊎ (word ≡ codes "--turns") ⊎ (word ≡ codes "--cache")
 
 -- the option is given with this list
 abbrev pub IsGiven : List Given → List ℕ → List ℕ → Type 0
@@ -123,6 +139,7 @@ pub record AreLists (words : List (List ℕ)) (lists : Lists) : Type 0 where
   pub models : IsGiven given (codes "--models") lists.models
   pub sessions : IsGiven given (codes "--sessions") lists.sessions
   pub turns : MayBeGiven given (codes "--turns") lists.turns
+  pub cache : MayBeGiven given (codes "--cache") lists.cache
 
 -- The words ask for this.
 pub record AreWords (words : List (List ℕ)) (request : Request) : Type 0 where
@@ -150,3 +167,4 @@ pub record IsRequest (request : Request) : Type 0 where
   pub session_files : All IsFile request.sessions
   pub few_turns : length request.turns ≤ 10000
   pub turns_known : All (IsTurn (length request.sessions)) request.turns
+  pub small_cache : request.cache ≤ 256

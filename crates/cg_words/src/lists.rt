@@ -2,19 +2,24 @@ ghost use Rattle.std.specs.Prelude.{◌≡◌, IfSome, IfNone, map, string_bytes
 ghost use Rattle.cg_words.specs.Words.{AreLists};
 ghost use Rattle.cg_words.specs.Reading.{is_option, are_options, list_of, HasNoLists, lists_in};
 
-/// The lists behind the options. Two of them may be left out.
+/// The lists behind the options, of which that of the cache is one number. Three of them may be left out.
 #[derive(Drop)]
 pub struct Lists<'a> {
     pub curves: Option<&'a str>,
     pub models: &'a str,
     pub sessions: &'a str,
     pub turns: Option<&'a str>,
+    pub cache: Option<&'a str>,
 }
 
 fn is_option(word: &str) -> bool
     ensures { result ≡ is_option word.now }
 {
-    word == "--curves" || word == "--models" || word == "--sessions" || word == "--turns"
+    word == "--curves"
+        || word == "--models"
+        || word == "--sessions"
+        || word == "--turns"
+        || word == "--cache"
 }
 
 /// The list behind the first such option.
@@ -62,5 +67,6 @@ pub fn lists_of(words: &[String]) -> Option<Lists<'_>>
         models: list_of("--models", options)?,
         sessions: list_of("--sessions", options)?,
         turns: list_of("--turns", options),
+        cache: list_of("--cache", options),
     })
 }

@@ -5,13 +5,15 @@ ghost use Rattle.cg_words.specs.Words.{IsFile, IsTurn, IsRequest};
 use crate::named::NamedFile;
 use std::marker::Model;
 
-/// What the words ask for: up to four curves, up to eight models, up to eight session scripts, and whose turn it is.
+/// What the words ask for: up to four curves, up to eight models, up to eight session scripts, whose turn it is, and
+/// how many results the cache may keep.
 #[derive(Drop)]
 pub struct Request<'a> {
     pub(crate) curves: Vec<NamedFile<'a>>,
     pub(crate) models: Vec<NamedFile<'a>>,
     pub(crate) sessions: Vec<&'a str>,
     pub(crate) turns: Vec<u32>,
+    pub(crate) cache: u16,
 }
 
 impl<'a> Model for Request<'a> {
@@ -25,6 +27,7 @@ impl<'a> Model for Request<'a> {
       models = r.models.items;
       sessions = map (λ file. file.now) r.sessions.items;
       turns = r.turns.items;
+      cache = r.cache;
     } };
 
     ghost invariant = { λ r. words.IsRequest (record {
@@ -32,6 +35,7 @@ impl<'a> Model for Request<'a> {
       models = r.models.items;
       sessions = map (λ file. file.now) r.sessions.items;
       turns = r.turns.items;
+      cache = r.cache;
     }) };
 }
 
@@ -72,5 +76,13 @@ impl<'a> Request<'a> {
         ensures known { All (IsTurn (length self.now.sessions)) result.now }
     {
         self.turns.as_slice()
+    }
+
+    /// How many results the cache of the sessions may keep. 64 where the option is left out.
+    pub fn cache(&self) -> u16
+        ensures cache { result ≡ self.now.cache }
+        ensures few { result ≤ 256 }
+    {
+        self.cache
     }
 }

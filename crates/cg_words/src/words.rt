@@ -3,6 +3,7 @@ ghost use Rattle.cg_curve.specs.Curves.{IsSameCurveName};
 ghost use Rattle.cg_words.specs.Words.{AreNamed, AreSessions, AreTurns, MayBe, AskFor, AreWords, AreNoWords};
 ghost use Rattle.cg_words.specs.Reading.{Nothing, lists_in};
 
+use crate::cache::cache_size_or_default;
 use crate::distinct::{are_curve_names_distinct, are_names_distinct};
 use crate::lists::{Lists, lists_of};
 use crate::named::NamedFile;
@@ -122,11 +123,15 @@ fn request_in<'a>(alloc: Global, lists: &Lists<'a>) -> Result<Option<Request<'a>
     let Some(turns) = turns_or_none(alloc, lists.turns, sessions.len())? else {
         return Ok(None);
     };
+    let Some(cache) = cache_size_or_default(lists.cache) else {
+        return Ok(None);
+    };
     Ok(Some(Request {
         curves,
         models,
         sessions,
         turns,
+        cache,
     }))
 }
 

@@ -35,6 +35,7 @@ returns-clause-some c =
       models = sym c.in_ok-list_of.ensures;
       sessions = sym c.in_ok-list_of-2.ensures;
       turns = sym c.list_of-4.ensures;
+      cache = sym c.list_of-5.ensures;
     })
   where
     not-false : (b : Bool) → not b ≡ false → b ≡ true
