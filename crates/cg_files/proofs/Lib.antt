@@ -1,5 +1,6 @@
 mod EndLemmas
 mod InputsLemmas
+mod KnownLemmas
 mod ListLemmas
 pub mod OneEndLemmas
 mod ReadLemmas

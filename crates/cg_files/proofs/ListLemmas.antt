@@ -2,12 +2,13 @@
 use Rattle.std.proofs.Common.{◌≡◌, ℕ, ◌+◌, ◌<◌, List, [], ◌∷◌, ◌++◌, map, length, get_or, take, drop, Option, All, AllPairs, sym, ap, ap₂, subst, ◌∙◌, arith, add-zero}
 use Rattle.std.proofs.lemmas.List.{map-append, take_more, take-append-drop, get_or-take, length-map, length-take-le}
 use Rattle.std.proofs.lemmas.List.{get_or-map}
+use Rattle.cg_meaning.specs.Tree.{Name}
 use Rattle.cg_io.specs.Shelf.{Files}
 use Rattle.cg_words.specs.Words.{NamedFile}
+use Rattle.cg_report.specs.declared.file.FileKind.{FileKind}
 use Rattle.cg_files.specs.Said.{Said}
 use Rattle.cg_files.specs.Reading.{File, EndsWith, AreRead}
 use Rattle.cg_files.specs.Inputs.{file_as, files_from, names_of}
-use Rattle.cg_files.specs.declared.file.FileKind.{FileKind}
 use Rattle.cg_files.specs.declared.file.FileFault.{FileFault}
 use Rattle.cg_files.proofs.EndLemmas.{read_more, ends_more, ends_before}
 
@@ -36,25 +37,25 @@ module _ {A : Type 0} (kind : FileKind) (path : A → List ℕ) (xs : List A) (k
       ap files (sym (take-append-drop (k + 1) xs)) ∙ ap (λ ps. files_from kind 1 ps) (map-append path (take (k + 1) xs) (drop (k + 1) xs))
       ∙ files_from-append kind 1 (map path (take (k + 1) xs)) (map path (drop (k + 1) xs))
 
-  module _ (told now last : Option Files) (said : List Said) (name : List ℕ) (same : name ≡ path x) (read : AreRead told now (files (take k xs)) said) where
-    read_next : (next : Said) → AreRead now last (file_as kind (k + 1) name ∷ []) (next ∷ []) → AreRead told last (files (take (k + 1) xs)) (said ++ next ∷ [])
+  module _ (curves : List Name) (told now last : Option Files) (said : List Said) (name : List ℕ) (same : name ≡ path x) (read : AreRead curves told now (files (take k xs)) said) where
+    read_next : (next : Said) → AreRead curves now last (file_as kind (k + 1) name ∷ []) (next ∷ []) → AreRead curves told last (files (take (k + 1) xs)) (said ++ next ∷ [])
     read_next next one =
-        subst (λ fs. AreRead told last fs (said ++ next ∷ [])) (sym first_files)
-        (read_more told now last (files (take k xs)) (file_as kind (k + 1) (path x) ∷ []) said read (next ∷ []) (subst (λ n. AreRead now last (file_as kind (k + 1) n ∷ []) (next ∷ [])) same one))
+        subst (λ fs. AreRead curves told last fs (said ++ next ∷ [])) (sym first_files)
+        (read_more curves told now last (files (take k xs)) (file_as kind (k + 1) (path x) ∷ []) said read (next ∷ []) (subst (λ n. AreRead curves now last (file_as kind (k + 1) n ∷ []) (next ∷ [])) same one))
 
     -- the same where what the files say is what a list of items says, and one was pushed
     pub read_pushed : {B : Type 0} (said_of : B → Said) (items pushed : List B) (next : B) → said ≡ map said_of items → pushed ≡ items ++ next ∷ [] →
-        AreRead now last (file_as kind (k + 1) name ∷ []) (said_of next ∷ []) → AreRead told last (files (take (k + 1) xs)) (map said_of pushed)
+        AreRead curves now last (file_as kind (k + 1) name ∷ []) (said_of next ∷ []) → AreRead curves told last (files (take (k + 1) xs)) (map said_of pushed)
     read_pushed said_of items pushed next so_far more one =
-        subst (λ s. AreRead told last (files (take (k + 1) xs)) s) (ap (λ s. s ++ said_of next ∷ []) so_far ∙ sym (ap (map said_of) more ∙ map-append said_of items (next ∷ [])))
+        subst (λ s. AreRead curves told last (files (take (k + 1) xs)) s) (ap (λ s. s ++ said_of next ∷ []) so_far ∙ sym (ap (map said_of) more ∙ map-append said_of items (next ∷ [])))
         (read_next (said_of next) one)
 
-    pub ends_next : (fault : FileFault) → EndsWith now last (file_as kind (k + 1) name ∷ []) fault → EndsWith told last (files xs) fault
+    pub ends_next : (fault : FileFault) → EndsWith curves now last (file_as kind (k + 1) name ∷ []) fault → EndsWith curves told last (files xs) fault
     ends_next fault end =
-        subst (λ fs. EndsWith told last fs fault) (sym all_files)
-        (ends_before told last (files (take (k + 1) xs)) (files_from kind (1 + length (map path (take (k + 1) xs))) (map path (drop (k + 1) xs))) fault
-        (subst (λ fs. EndsWith told last fs fault) (sym first_files)
-        (ends_more told now last (files (take k xs)) (file_as kind (k + 1) (path x) ∷ []) said read fault (subst (λ n. EndsWith now last (file_as kind (k + 1) n ∷ []) fault) same end))))
+        subst (λ fs. EndsWith curves told last fs fault) (sym all_files)
+        (ends_before curves told last (files (take (k + 1) xs)) (files_from kind (1 + length (map path (take (k + 1) xs))) (map path (drop (k + 1) xs))) fault
+        (subst (λ fs. EndsWith curves told last fs fault) (sym first_files)
+        (ends_more curves told now last (files (take k xs)) (file_as kind (k + 1) (path x) ∷ []) said read fault (subst (λ n. EndsWith curves now last (file_as kind (k + 1) n ∷ []) fault) same end))))
 
 -- the names of the files up to a place, and the next one
 module _ (named : List NamedFile) (k : ℕ) (x : NamedFile) (is : x ≡ get_or named k x) (within : k < length named) where

@@ -1,14 +1,15 @@
 -- What the files of a request say.
 use Rattle.std.specs.Prelude.{◌≡◌, ℕ, ◌+◌, List, [], ◌∷◌, ◌++◌, map, Option}
 use Rattle.cg_io.specs.Shelf.{Files}
+use Rattle.cg_meaning.specs.Tree.{Name}
 use Rattle.cg_curve.specs.Curves.{NamedCurve}
 use Rattle.cg_sharing.specs.Command.{Line}
 use Rattle.cg_sharing.specs.Versions.{StartModel}
 use Rattle.cg_words.specs.Words.{NamedFile, Request}
 use Rattle.cg_files.specs.Said.{Said, a_curve, a_model, a_script}
 use Rattle.cg_files.specs.Reading.{File, AcceptsAll}
-use Rattle.cg_files.specs.declared.file.FileKind.{FileKind}
-use Rattle.cg_files.specs.declared.file.FileKind.TheVariants.{Curve, Model, Session}
+use Rattle.cg_report.specs.declared.file.FileKind.{FileKind}
+use Rattle.cg_report.specs.declared.file.FileKind.TheVariants.{Curve, Model, Session}
 use Rattle.cg_files.specs.declared.inputs.Inputs as declared
 
 -- the file of this name
@@ -21,7 +22,7 @@ files_from kind number [] = []
 files_from kind number (name ∷ names) = file_as kind number name ∷ files_from kind (number + 1) names
 
 -- the names of named files, and where they stand on the shelf
-abbrev pub names_of : List NamedFile → List (List ℕ)
+abbrev pub names_of : List NamedFile → List Name
 names_of named = map (λ one. one.name) named
 
 abbrev pub file_names : List NamedFile → List (List ℕ)
@@ -63,7 +64,7 @@ said_by inputs = said_of_curves inputs.curves ++ said_of_models inputs.models ++
 
 -- All files of the request are accepted, and say this, each under its name.
 pub record AreInputs (told : Option Files) (request : Request) (inputs : Inputs) : Type 0 where
-  pub accepted : AcceptsAll told (files_of request) (said_by inputs)
+  pub accepted : AcceptsAll (names_of request.curves) told (files_of request) (said_by inputs)
   pub curves : map (λ named. named.name) inputs.curves ≡ names_of request.curves
   pub models : map (λ model. model.name) inputs.models ≡ names_of request.models
 

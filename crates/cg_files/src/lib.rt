@@ -9,6 +9,6 @@ mod laws;
 mod lists;
 mod read;
 
-pub use file::{FileCause, FileFault, FileKind, FileRef};
+pub use file::FileFault;
 pub use inputs::{Inputs, read_all};
 pub use laws::files_have_one_end;

@@ -1,17 +1,22 @@
 //! One file, by its kind.
 
-ghost use Rattle.std.specs.Prelude.{◌≡◌, ◌≤◌, ◌∷◌, [], IfOk, IfErr, length};
+ghost use Rattle.std.specs.Prelude.{◌≡◌, ◌-◌, ◌≤◌, ◌<◌, ◌^◌, ◌∷◌, ◌↔◌, [], List, IfOk, IfErr, IfSome, IfNone, IsTrue, Some, length};
+ghost use Rattle.cg_meaning.specs.Tree.{Name};
+ghost use Rattle.cg_grammar.specs.Text.{Spells};
 ghost use Rattle.cg_files.specs.Shelf.{limit, Reads, Finds};
-ghost use Rattle.cg_files.specs.Said.{fault_line, fault_of_curve, a_curve, a_model, a_script};
+ghost use Rattle.cg_files.specs.Said.{fault_line, fault_of_curve, fault_of_model, fault_of_script, IsKnown, NamesUnknown, a_curve, a_model, a_script};
 ghost use Rattle.cg_files.specs.Reading.{AreRead, EndsWith, HasRisen};
-ghost use Rattle.cg_files.specs.Inputs.{file_as};
+ghost use Rattle.cg_files.specs.Inputs.{file_as, names_of};
 
-use crate::file::{FileCause, FileFault, FileKind, FileRef};
+use crate::file::FileFault;
+use cg_cql::{curve_line, read_model};
 use cg_curve::{Curve, CurveFault, read_curve};
-use cg_form::{FormFault, read_model};
+use cg_grammar::{CqlCause, CqlFault};
 use cg_io::{ReadEnd, Shelf, ShelfFault};
-use cg_model::ModelTree;
-use cg_script::{Script, ScriptFault, read_script};
+use cg_model::{ModelTree, Name};
+use cg_report::{FileCause, FileKind, FileRef};
+use cg_script::{Script, ScriptCause, ScriptFault, read_script};
+use cg_words::NamedFile;
 use std::alloc::Global;
 
 const LIMIT: usize = 4_194_304;
@@ -26,7 +31,8 @@ fn bytes_of<H: Shelf>(
     ensures found { IfOk result (λ bytes. Finds (H.told shelf.old) name.now bytes.items) }
     ensures short { IfOk result (λ bytes. length bytes.items ≤ limit) }
     ensures reads { Reads 1 (H.told shelf.old) (H.told shelf.new) }
-    ensures fault { IfErr result (λ fault. EndsWith (H.told shelf.old) (H.told shelf.new) (record { ref = file; name = name.now } ∷ []) fault) }
+    ensures fault { IfErr result (λ fault. (given : List Name)
+        → EndsWith given (H.told shelf.old) (H.told shelf.new) (record { ref = file; name = name.now } ∷ []) fault) }
     ensures later { H.faults shelf.old ≤ H.faults shelf.new }
     ensures cause { IfErr result (λ fault. HasRisen fault (H.faults shelf.old) (H.faults shelf.new)) }
 {
@@ -70,8 +76,11 @@ pub fn curve_of<H: Shelf>(
     name: &str,
     shelf: &mut H,
 ) -> Result<Curve, FileFault>
-    ensures read { IfOk result (λ curve. AreRead (H.told shelf.old) (H.told shelf.new) (file_as FileKind.Curve number name.now ∷ []) (a_curve curve ∷ [])) }
-    ensures fault { IfErr result (λ fault. EndsWith (H.told shelf.old) (H.told shelf.new) (file_as FileKind.Curve number name.now ∷ []) fault) }
+    ensures read { IfOk result (λ curve. (given : List Name)
+        → AreRead given (H.told shelf.old) (H.told shelf.new) (file_as FileKind.Curve number name.now ∷ [])
+        (a_curve curve ∷ [])) }
+    ensures fault { IfErr result (λ fault. (given : List Name)
+        → EndsWith given (H.told shelf.old) (H.told shelf.new) (file_as FileKind.Curve number name.now ∷ []) fault) }
     ensures later { H.faults shelf.old ≤ H.faults shelf.new }
     ensures cause { IfErr result (λ fault. HasRisen fault (H.faults shelf.old) (H.faults shelf.new)) }
 {
@@ -86,15 +95,52 @@ pub fn curve_of<H: Shelf>(
     }
 }
 
-/// The model of a file, whose number is told where it isn't accepted.
+fn fault_of_model(file: FileRef, fault: CqlFault) -> FileFault
+    ensures { result ≡ fault_of_model file fault.line fault.cause }
+{
+    match fault.cause {
+        CqlCause::NoMemory => FileFault::NoMemory,
+        other => FileFault::Refused(file, fault.line, FileCause::Cql(other)),
+    }
+}
+
+/// Whether one of the curves has the name, ASCII case aside.
+fn is_known(curves: &[NamedFile<'_>], name: &Name) -> bool
+    ensures { IsTrue result ↔ IsKnown (names_of curves.now) (Some name.now) }
+{
+    curves
+        .iter()
+        .any(|curve| curve.name().eq_ignore_ascii_case(name.text()))
+}
+
+/// The line on which the bytes of a model name a curve that isn't among these. `None` where they name none such.
+fn unknown_line(curves: &[NamedFile<'_>], model: &ModelTree, bytes: &[u8]) -> Option<u32>
+    requires few { length bytes.now < 2 ^ 32 - 1 }
+    requires spelled { Spells bytes.now model.now }
+    ensures some { IfSome result (λ line. NamesUnknown (names_of curves.now) bytes.now line) }
+    ensures none { IfNone result (IsKnown (names_of curves.now) model.now.curve) }
+{
+    if is_known(curves, model.curve()?) {
+        None
+    } else {
+        curve_line(bytes)
+    }
+}
+
+/// The model of a file, whose number is told where it isn't accepted. It may name one of these curves.
 pub fn model_of<H: Shelf>(
     alloc: Global,
+    curves: &[NamedFile<'_>],
     number: u32,
     name: &str,
     shelf: &mut H,
 ) -> Result<ModelTree, FileFault>
-    ensures read { IfOk result (λ model. AreRead (H.told shelf.old) (H.told shelf.new) (file_as FileKind.Model number name.now ∷ []) (a_model model ∷ [])) }
-    ensures fault { IfErr result (λ fault. EndsWith (H.told shelf.old) (H.told shelf.new) (file_as FileKind.Model number name.now ∷ []) fault) }
+    ensures read { IfOk result (λ model.
+        AreRead (names_of curves.now) (H.told shelf.old) (H.told shelf.new)
+        (file_as FileKind.Model number name.now ∷ []) (a_model model ∷ [])) }
+    ensures fault { IfErr result (λ fault.
+        EndsWith (names_of curves.now) (H.told shelf.old) (H.told shelf.new)
+        (file_as FileKind.Model number name.now ∷ []) fault) }
     ensures later { H.faults shelf.old ≤ H.faults shelf.new }
     ensures cause { IfErr result (λ fault. HasRisen fault (H.faults shelf.old) (H.faults shelf.new)) }
 {
@@ -104,9 +150,20 @@ pub fn model_of<H: Shelf>(
     };
     let bytes = bytes_of(alloc, file, name, shelf)?;
     match read_model(alloc, &bytes) {
-        Ok(model) => Ok(model),
-        Err(FormFault::Form) => Err(FileFault::Refused(file, 0, FileCause::Form)),
-        Err(FormFault::NoMemory) => Err(FileFault::NoMemory),
+        Ok(model) => match unknown_line(curves, &model, &bytes) {
+            None => Ok(model),
+            Some(line) => Err(FileFault::Refused(file, line, FileCause::UnknownCurve)),
+        },
+        Err(fault) => Err(fault_of_model(file, fault)),
+    }
+}
+
+fn fault_of_script(file: FileRef, fault: ScriptFault) -> FileFault
+    ensures { result ≡ fault_of_script file fault.line fault.cause }
+{
+    match fault.cause {
+        ScriptCause::NoMemory => FileFault::NoMemory,
+        other => FileFault::Refused(file, fault.line, FileCause::Script(other)),
     }
 }
 
@@ -117,8 +174,11 @@ pub fn script_of<H: Shelf>(
     name: &str,
     shelf: &mut H,
 ) -> Result<Script, FileFault>
-    ensures read { IfOk result (λ script. AreRead (H.told shelf.old) (H.told shelf.new) (file_as FileKind.Session number name.now ∷ []) (a_script script ∷ [])) }
-    ensures fault { IfErr result (λ fault. EndsWith (H.told shelf.old) (H.told shelf.new) (file_as FileKind.Session number name.now ∷ []) fault) }
+    ensures read { IfOk result (λ script. (given : List Name)
+        → AreRead given (H.told shelf.old) (H.told shelf.new) (file_as FileKind.Session number name.now ∷ [])
+        (a_script script ∷ [])) }
+    ensures fault { IfErr result (λ fault. (given : List Name)
+        → EndsWith given (H.told shelf.old) (H.told shelf.new) (file_as FileKind.Session number name.now ∷ []) fault) }
     ensures later { H.faults shelf.old ≤ H.faults shelf.new }
     ensures cause { IfErr result (λ fault. HasRisen fault (H.faults shelf.old) (H.faults shelf.new)) }
 {
@@ -129,7 +189,6 @@ pub fn script_of<H: Shelf>(
     let bytes = bytes_of(alloc, file, name, shelf)?;
     match read_script(alloc, &bytes) {
         Ok(script) => Ok(script),
-        Err(ScriptFault::Form) => Err(FileFault::Refused(file, 0, FileCause::Form)),
-        Err(ScriptFault::NoMemory) => Err(FileFault::NoMemory),
+        Err(fault) => Err(fault_of_script(file, fault)),
     }
 }

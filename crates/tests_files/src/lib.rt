@@ -2,14 +2,14 @@
 #![tactic(auto)]
 
 #[cfg(test)]
-mod files;
+mod faults;
 #[cfg(test)]
-mod models;
+mod files;
 #[cfg(test)]
 mod pieces;
 #[cfg(test)]
-mod scripts;
-#[cfg(test)]
 mod shown;
+#[cfg(test)]
+mod told;
 #[cfg(test)]
 mod words;

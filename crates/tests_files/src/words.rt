@@ -26,7 +26,7 @@ fn write_turns(text: &mut String, turns: &[u32]) -> Result<(), Fail> {
     Ok(())
 }
 
-/// Writes what is asked for: curves, models, sessions and turns, with a bar between each two.
+/// Writes what is asked for: curves, models, sessions, turns and the size of the cache, with a bar between each two.
 fn write_request(text: &mut String, request: &Request<'_>) -> Result<(), Fail> {
     write_named(text, request.curves())?;
     text.push_str(" |")?;
@@ -34,7 +34,9 @@ fn write_request(text: &mut String, request: &Request<'_>) -> Result<(), Fail> {
     text.push_str(" |")?;
     write_sessions(text, request.sessions())?;
     text.push_str(" |")?;
-    write_turns(text, request.turns())
+    write_turns(text, request.turns())?;
+    write!(text, " | {}", request.cache())?;
+    Ok(())
 }
 
 /// What these words ask for.
@@ -49,44 +51,64 @@ fn asked(alloc: Global, words: &[String]) -> Result<String, Fail> {
 
 const NOTHING: &str = "nothing";
 
-static LINES: [(&str, &str); 57] = [
-    ("alone --models a=m --sessions s", " | a:m | s |"),
+static LINES: [(&str, &str); 75] = [
+    ("alone --models a=m --sessions s", " | a:m | s | | 64"),
     // The options come in any order, and the sessions are counted wherever they stand.
-    ("alone --sessions s --models a=m", " | a:m | s |"),
+    ("alone --sessions s --models a=m", " | a:m | s | | 64"),
     (
         "alone --turns 2,1,2 --sessions s,t --curves c=i,d=j --models a=m,b=n",
-        " c:i d:j | a:m b:n | s t | 2 1 2",
+        " c:i d:j | a:m b:n | s t | 2 1 2 | 64",
     ),
     (
         "alone --models a=m --curves c=i --sessions s --turns 1",
-        " c:i | a:m | s | 1",
+        " c:i | a:m | s | 1 | 64",
     ),
     // A word behind an option is its list, whatever it says.
     (
         "alone --models a=m --sessions --turns",
-        " | a:m | --turns |",
+        " | a:m | --turns | | 64",
     ),
     // Names differ by their case for models. Files may be equal.
     (
         "alone --models a=m,A=m --sessions s,s",
-        " | a:m A:m | s s |",
+        " | a:m A:m | s s | | 64",
     ),
     (
         "alone --models A.b_C-9=m --sessions s",
-        " | A.b_C-9:m | s |",
+        " | A.b_C-9:m | s | | 64",
     ),
     // A file may hold a further `=`.
-    ("alone --models a=m=n --sessions x=y", " | a:m=n | x=y |"),
-    ("alone --models a==m --sessions s", " | a:=m | s |"),
-    ("alone --models a=é/m --sessions s", " | a:é/m | s |"),
+    (
+        "alone --models a=m=n --sessions x=y",
+        " | a:m=n | x=y | | 64",
+    ),
+    ("alone --models a==m --sessions s", " | a:=m | s | | 64"),
+    ("alone --models a=é/m --sessions s", " | a:é/m | s | | 64"),
     // Leading zeros are allowed, up to seven digits.
     (
         "alone --models a=m --sessions s,t --turns 01,0000002",
-        " | a:m | s t | 1 2",
+        " | a:m | s t | 1 2 | 64",
     ),
     (
         "alone --curves a=1,b=2,c=3,d=4 --models a=1,b=2,c=3,d=4,e=5,f=6,g=7,h=8 --sessions 1,2,3,4,5,6,7,8 --turns 8",
-        " a:1 b:2 c:3 d:4 | a:1 b:2 c:3 d:4 e:5 f:6 g:7 h:8 | 1 2 3 4 5 6 7 8 | 8",
+        " a:1 b:2 c:3 d:4 | a:1 b:2 c:3 d:4 e:5 f:6 g:7 h:8 | 1 2 3 4 5 6 7 8 | 8 | 64",
+    ),
+    // The size of the cache is a number by itself.
+    (
+        "alone --models a=m --sessions s --cache 0",
+        " | a:m | s | | 0",
+    ),
+    (
+        "alone --cache 1 --models a=m --sessions s",
+        " | a:m | s | | 1",
+    ),
+    (
+        "alone --curves c=i --cache 256 --models a=m --sessions s --turns 1",
+        " c:i | a:m | s | 1 | 256",
+    ),
+    (
+        "alone --models a=m --cache 0000007 --sessions s",
+        " | a:m | s | | 7",
     ),
     // The command.
     ("", NOTHING),
@@ -109,6 +131,15 @@ static LINES: [(&str, &str); 57] = [
     ),
     (
         "alone --models a=m --turns 1 --sessions s --turns 1",
+        NOTHING,
+    ),
+    ("alone --models a=m --sessions s --cache", NOTHING),
+    (
+        "alone --models a=m --sessions s --cache 64 --cache 64",
+        NOTHING,
+    ),
+    (
+        "alone --cache 1 --models a=m --cache 2 --sessions s",
         NOTHING,
     ),
     ("alone --model a=m --sessions s", NOTHING),
@@ -154,6 +185,18 @@ static LINES: [(&str, &str); 57] = [
     ("alone --models a=m --sessions s --turns 00000001", NOTHING),
     ("alone --models a=m --sessions s --turns +1", NOTHING),
     ("alone --models a=m --sessions s --turns 1x", NOTHING),
+    // Sizes that no cache has. Of two of them the last sixteen bits are 0 and 64.
+    ("alone --models a=m --sessions s --cache 257", NOTHING),
+    ("alone --models a=m --sessions s --cache 65536", NOTHING),
+    ("alone --models a=m --sessions s --cache 6553664", NOTHING),
+    ("alone --models a=m --sessions s --cache 9999999", NOTHING),
+    ("alone --models a=m --sessions s --cache -1", NOTHING),
+    ("alone --models a=m --sessions s --cache +1", NOTHING),
+    ("alone --models a=m --sessions s --cache 1x", NOTHING),
+    ("alone --models a=m --sessions s --cache 1,2", NOTHING),
+    ("alone --models a=m --sessions s --cache ", NOTHING),
+    ("alone --models a=m --sessions s --cache 00000064", NOTHING),
+    ("alone --models a=m --sessions s --Cache 64", NOTHING),
 ];
 
 #[test]

@@ -1,10 +1,10 @@
-use Rattle.std.proofs.Common.{◌+◌, ◌∷◌, [], map, refl, sym, ap, subst, ◌∙◌, arith, take_all}
+use Rattle.std.proofs.Common.{[], map, refl, sym, ap, subst, ◌∙◌, arith, take_all}
 use Rattle.std.proofs.lemmas.Result.{err_from_is_err_and}
 use Rattle.cg_curve.specs.Curves.{NamedCurve, IsSameCurveName}
+use Rattle.cg_report.specs.declared.file.FileKind.TheVariants.{Curve}
 use Rattle.cg_files.specs.Said.{a_curve}
 use Rattle.cg_files.specs.Reading.{AreRead}
 use Rattle.cg_files.specs.Inputs.{names_of, curve_files, said_of_curves}
-use Rattle.cg_files.specs.declared.file.FileKind.TheVariants.{Curve}
 use Rattle.cg_files.proofs.EndLemmas.{read_none}
 use Rattle.cg_files.proofs.ListLemmas.{read_pushed, ends_next, names_pushed, few_names, new_name}
 use Rattle.cg_files.proofs.lists.read_curves.Goals as goal
@@ -13,7 +13,7 @@ pub loop-place-init : goal.loop-place-init
 loop-place-init g c =
     let told = g.H.Shelf.told c.args.shelf.now in
     record {
-      read = subst (λ curves. AreRead told told [] (said_of_curves curves)) (sym c.new-curves.ensures) (read_none told);
+      read = λ given. subst (λ curves. AreRead given told told [] (said_of_curves curves)) (sym c.new-curves.ensures) (read_none given told);
       names = ap (λ curves. map (λ (one : NamedCurve). one.name) curves) c.new-curves.ensures;
       later = omega arith;
     }
@@ -21,9 +21,9 @@ loop-place-init g c =
 pub returns-in_err-curve-clause-fault : goal.returns-in_err-curve-clause-fault
 returns-in_err-curve-clause-fault g c =
     let p = err_from_is_err_and c.from_residual.result c.from_residual.ensures.1 in
-    rw (p.1, p.2)
-    (ends_next Curve (λ one. one.file) c.args.named.now c.loop-place.place c.index-named-place.result c.index-named-place.is c.loop-place-test.true _ _ _ _ _ c.file.ensures.file
-    c.loop-place.invariant.read _ c.in_err-curve.ensures.fault)
+    rw (p.1, p.2) (λ given.
+    ends_next Curve (λ one. one.file) c.args.named.now c.loop-place.place c.index-named-place.result c.index-named-place.is c.loop-place-test.true given _ _ _ _ _ c.file.ensures.file
+    (c.loop-place.invariant.read given) _ (c.in_err-curve.ensures.fault given))
 
 pub push-requires-clause-few : goal.push-requires-clause-few
 push-requires-clause-few g c =
@@ -40,9 +40,9 @@ loop-place-preserved g c =
     let next : NamedCurve = record { name = c.as_bytes.result.now; curve = c.in_ok-curve.curve } in
     let pushed = c.in_ok-push.ensures.ok in
     record {
-      read =
-          read_pushed Curve (λ one. one.file) c.args.named.now c.loop-place.place c.index-named-place.result c.index-named-place.is c.loop-place-test.true _ _ _ _ _ c.file.ensures.file
-          c.loop-place.invariant.read (λ (one : NamedCurve). a_curve one.curve) c.loop-place.curves _ next refl pushed c.in_ok-curve.ensures.read;
+      read = λ given.
+          read_pushed Curve (λ one. one.file) c.args.named.now c.loop-place.place c.index-named-place.result c.index-named-place.is c.loop-place-test.true given _ _ _ _ _ c.file.ensures.file
+          (c.loop-place.invariant.read given) (λ (one : NamedCurve). a_curve one.curve) c.loop-place.curves _ next refl pushed (c.in_ok-curve.ensures.read given);
       names =
           names_pushed c.args.named.now c.loop-place.place c.index-named-place.result c.index-named-place.is c.loop-place-test.true (λ (one : NamedCurve). one.name) c.loop-place.curves _ next
           pushed (c.as_bytes.ensures.value ∙ c.name.ensures.name) c.loop-place.invariant.names;
@@ -52,7 +52,7 @@ loop-place-preserved g c =
 pub returns-clause-read : goal.returns-clause-read
 returns-clause-read g c =
     let all = take_all c.loop-place.place c.args.named.now c.loop-place-test.false in
-    subst (λ named. AreRead (g.H.Shelf.told c.args.shelf.now) (g.H.Shelf.told c.loop-place.shelf) (curve_files named) (said_of_curves c.loop-place.curves)) all c.loop-place.invariant.read
+    λ given. subst (λ named. AreRead given (g.H.Shelf.told c.args.shelf.now) (g.H.Shelf.told c.loop-place.shelf) (curve_files named) (said_of_curves c.loop-place.curves)) all (c.loop-place.invariant.read given)
 
 pub returns-clause-names : goal.returns-clause-names
 returns-clause-names g c = c.loop-place.invariant.names ∙ ap names_of (take_all c.loop-place.place c.args.named.now c.loop-place-test.false)

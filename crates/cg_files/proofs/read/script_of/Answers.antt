@@ -1,12 +1,10 @@
-use Rattle.std.proofs.Common.{refl, subst}
-use Rattle.cg_script.specs.Form.{HasNoScript}
-use Rattle.cg_files.specs.declared.file.FileKind.TheVariants.{Session}
-use Rattle.cg_files.specs.declared.file.FileCause.TheVariants.{Form}
-use Rattle.cg_files.specs.Inputs.{file_as}
-use Rattle.cg_files.proofs.EndLemmas.{refuse_one}
+use Rattle.std.proofs.Common.{subst}
+use Rattle.cg_script.specs.Script.{FailsBy}
+use Rattle.cg_files.proofs.ReadLemmas.{script_fault}
 use Rattle.cg_files.proofs.read.script_of.Goals as goal
 
-pub returns-in-Err-Form-clause-fault : goal.returns-in-Err-Form-clause-fault
-returns-in-Err-Form-clause-fault g c =
-    refuse_one _ _ (file_as Session c.args.number c.args.name.now) _ 0 Form c.in_ok-bytes.ensures.found
-    (refl, c.in_ok-bytes.ensures.short, subst HasNoScript c.deref.ensures.value (c.in-Err-Form.ensures.form (cc))) c.bytes_of.ensures.reads
+pub returns-clause-fault : goal.returns-clause-fault
+returns-clause-fault g c = λ given.
+    rw c.fault_of_script.ensures
+    (script_fault given _ _ c.args.number c.args.name.now _ c.in_ok-bytes.ensures.found c.in_ok-bytes.ensures.short c.bytes_of.ensures.reads c.in-Err.fault.line c.in-Err.fault.cause
+    (subst (λ bytes. FailsBy bytes c.in-Err.fault) c.deref.ensures.value c.in-Err.ensures.fault))

@@ -1,3 +1,0 @@
-pub mod Model
-pub mod Values
-pub mod Reading
