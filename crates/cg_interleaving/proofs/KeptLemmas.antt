@@ -1,11 +1,10 @@
 -- A session stays in its course while others make entries.
 use Rattle.std.proofs.Common.{◌≡◌, ℕ, ◌≤◌, Bool, true, false, List, [], ◌∷◌, ◌++◌, take, drop, MatchBool, refl, sym, ap, ap₂, subst, ◌∙◌, append_assoc, Option, inl, inr}
 use Rattle.std.proofs.lemmas.List.{take-append-drop}
-use Rattle.cg_meaning.specs.Curve.{Curve}
 use Rattle.cg_sharing.specs.Command.{Line}
 use Rattle.cg_sharing.specs.Versions.{State, count_of}
 use Rattle.cg_sharing.specs.Journal.{Entry, state_after, IsLegal}
-use Rattle.cg_sharing.specs.Course.{Place, settled, AreOthers, IsRunning, IsStopped, Reaches, AreFit}
+use Rattle.cg_sharing.specs.Course.{Calibration, Place, settled, AreOthers, IsRunning, IsStopped, Reaches, AreFit}
 use Rattle.cg_sharing.proofs.JournalLemmas.{state_after-append, IsLegal-front, grows-state_after, IsBelow, IsBelow-more, IsClosed}
 use Rattle.cg_sharing.proofs.CourseLemmas.{running-others, running_knows}
 use Rattle.cg_sharing.proofs.ReachLemmas.{SameText, reach_others}
@@ -16,20 +15,20 @@ use Rattle.cg_session.proofs.SessionLemmas.{going, reaches_at}
 use Rattle.cg_session.proofs.AdvanceLemmas.{fits, known_version, text_later, same_text, stands_stopped}
 use Rattle.cg_interleaving.specs.Taking.{HasPlace, HasEnd}
 
-pub stopped_is : (curve : Curve) (session : ℕ) (start : State) (script : List Line) (xs : List Entry) (place : Place) → IsStopped curve session start script xs place → place.stopped ≡ true
-stopped_is curve session start script xs place stop = ap (λ (p : Place). p.stopped) stop.reached
+pub stopped_is : (calibration : Calibration) (session : ℕ) (start : State) (script : List Line) (xs : List Entry) (place : Place) → IsStopped calibration session start script xs place → place.stopped ≡ true
+stopped_is calibration session start script xs place stop = ap (λ (p : Place). p.stopped) stop.reached
 
-pub stopped_left : (curve : Curve) (session : ℕ) (start : State) (script : List Line) (xs : List Entry) (place : Place) → IsStopped curve session start script xs place → place.left ≡ []
-stopped_left curve session start script xs place stop = ap (λ (p : Place). p.left) stop.reached
+pub stopped_left : (calibration : Calibration) (session : ℕ) (start : State) (script : List Line) (xs : List Entry) (place : Place) → IsStopped calibration session start script xs place → place.left ≡ []
+stopped_left calibration session start script xs place stop = ap (λ (p : Place). p.left) stop.reached
 
 AreOthers-append : (session : ℕ) (xs ys : List Entry) → AreOthers session xs → AreOthers session ys → AreOthers session (xs ++ ys)
 AreOthers-append session [] ys first then = then
 AreOthers-append session (x ∷ xs) ys first then = (first.0, AreOthers-append session xs ys first.1 then)
 
 -- The entries of others leave a stopped course one.
-pub stopped_later : (curve : Curve) (session : ℕ) (start : State) (script : List Line) (xs more : List Entry) (place : Place) → AreOthers session more → IsStopped curve session start script xs place →
-    IsStopped curve session start script (xs ++ more) place
-stopped_later curve session start script xs more place others stop = record {
+pub stopped_later : (calibration : Calibration) (session : ℕ) (start : State) (script : List Line) (xs more : List Entry) (place : Place) → AreOthers session more → IsStopped calibration session start script xs place →
+    IsStopped calibration session start script (xs ++ more) place
+stopped_later calibration session start script xs more place others stop = record {
   commands = stop.commands;
   earlier = stop.earlier;
   later = stop.later ++ more;
@@ -42,64 +41,64 @@ stopped_later curve session start script xs more place others stop = record {
 }
 
 -- So they do with the session's place,
-pub place_later : (curve : Curve) (number : ℕ) (start : State) (xs more : List Entry) (session : Session) (place : Place) → AreOthers number more → HasPlace curve number start xs session place → HasPlace curve number start (xs ++ more) session place
-place_later curve number start xs more session place others (inl run) = inl (run.0, running-others curve number start (script_of session) xs more place run.1 others)
-place_later curve number start xs more session place others (inr stop) = inr (stop.0, stop.1, stopped_later curve number start (script_of session) xs more place others stop.2)
+pub place_later : (calibration : Calibration) (number : ℕ) (start : State) (xs more : List Entry) (session : Session) (place : Place) → AreOthers number more → HasPlace calibration number start xs session place → HasPlace calibration number start (xs ++ more) session place
+place_later calibration number start xs more session place others (inl run) = inl (run.0, running-others calibration number start (script_of session) xs more place run.1 others)
+place_later calibration number start xs more session place others (inr stop) = inr (stop.0, stop.1, stopped_later calibration number start (script_of session) xs more place others stop.2)
 
 -- and with its end.
-pub end_later : (curve : Curve) (number : ℕ) (start : State) (xs more : List Entry) (session : Session) → AreOthers number more → HasEnd curve number start xs session → HasEnd curve number start (xs ++ more) session
-end_later curve number start xs more session others (inl stopped) = inl stopped
-end_later curve number start xs more session others (inr end) = inr (end.0, end.1, running-others curve number start (script_of session) xs more end.0 end.2 others, end.3)
+pub end_later : (calibration : Calibration) (number : ℕ) (start : State) (xs more : List Entry) (session : Session) → AreOthers number more → HasEnd calibration number start xs session → HasEnd calibration number start (xs ++ more) session
+end_later calibration number start xs more session others (inl stopped) = inl stopped
+end_later calibration number start xs more session others (inr end) = inr (end.0, end.1, running-others calibration number start (script_of session) xs more end.0 end.2 others, end.3)
 
 -- the version of a session that was stopped is known
-knows_stopped : (curve : Curve) (session : ℕ) (start : State) (script : List Line) (xs : List Entry) (place : Place) → IsClosed start → ((n : ℕ) → AreFit (take n script)) → IsLegal start xs → IsStopped curve session start script xs place →
+knows_stopped : (calibration : Calibration) (session : ℕ) (start : State) (script : List Line) (xs : List Entry) (place : Place) → IsClosed start → ((n : ℕ) → AreFit (take n script)) → IsLegal start xs → IsStopped calibration session start script xs place →
     IsBelow (count_of (state_after start xs)) place.version
-knows_stopped curve session start script xs place closed fit legal stop =
+knows_stopped calibration session start script xs place closed fit legal stop =
     let L : List Entry → Type 0 = λ es. IsLegal start es in
     let C : List Entry → Type 0 = λ es. count_of (state_after start stop.earlier) ≤ count_of (state_after start es) in
     let N : State → Type 0 = λ s. count_of (state_after start stop.earlier) ≤ count_of s in
-    let known = running_knows curve session start (take stop.commands script) stop.earlier stop.last closed (fit stop.commands) (IsLegal-front start stop.earlier stop.later (subst L stop.all legal)) stop.running in
+    let known = running_knows calibration session start (take stop.commands script) stop.earlier stop.last closed (fit stop.commands) (IsLegal-front start stop.earlier stop.later (subst L stop.all legal)) stop.running in
     let grows : C xs = subst C (sym stop.all) (subst N (sym (state_after-append start stop.earlier stop.later)) (grows-state_after (state_after start stop.earlier) stop.later)) in
     subst (λ v. IsBelow (count_of (state_after start xs)) v) (sym (ap (λ (p : Place). p.version) stop.reached)) (IsBelow-more grows stop.last.version known.0.version)
 
 -- what `StandsAt` says of the course once it is told whether the session is stopped
-abbrev StandsAs : Curve → Seen → Session → Place → Bool → Type 0
-StandsAs curve seen s place b =
-    MatchBool b (IsStopped curve s.number seen.start s.script seen.journal place) (Reaches curve s.number seen.start (take s.done s.script) seen.journal place)
+abbrev StandsAs : Calibration → Seen → Session → Place → Bool → Type 0
+StandsAs calibration seen s place b =
+    MatchBool b (IsStopped calibration s.number seen.start s.script seen.journal place) (Reaches calibration s.number seen.start (take s.done s.script) seen.journal place)
 
-kept_here : (curve : Curve) (seen : Seen) (s : Session) (more : List Entry) → IsClosed seen.start → IsAt curve seen s → AreOthers s.number more → IsLegal seen.start (seen.journal ++ more) → IsAt curve (record { start = seen.start; journal = seen.journal ++ more }) s
-kept_here curve seen s more closed at others legal =
+kept_here : (calibration : Calibration) (seen : Seen) (s : Session) (more : List Entry) → IsClosed seen.start → IsAt calibration seen s → AreOthers s.number more → IsLegal seen.start (seen.journal ++ more) → IsAt calibration (record { start = seen.start; journal = seen.journal ++ more }) s
+kept_here calibration seen s more closed at others legal =
     let new : Seen = record { start = seen.start; journal = seen.journal ++ more } in
     let place = at.stands.0 in
     let stands = at.stands.1 in
-    elim s.stopped as (λ b. s.stopped ≡ b → IsAt curve new s) [
+    elim s.stopped as (λ b. s.stopped ≡ b → IsAt calibration new s) [
       | true ↦ λ is.
-          let stop = stands_stopped curve seen s place is stands in
-          let later = stopped_later curve s.number seen.start s.script seen.journal more place others stop in
-          let P : Bool → Type 0 = λ b. StandsAs curve new s place b in
+          let stop = stands_stopped calibration seen s place is stands in
+          let later = stopped_later calibration s.number seen.start s.script seen.journal more place others stop in
+          let P : Bool → Type 0 = λ b. StandsAs calibration new s place b in
           let B : Option ℕ → Type 0 = λ v. IsBelow (count_of (state_of seen)) v in
-          let known = subst B (sym stands.0.shows.version) (knows_stopped curve s.number seen.start s.script seen.journal place closed (λ n. fits n s.script at.ready) at.legal stop) in
+          let known = subst B (sym stands.0.shows.version) (knows_stopped calibration s.number seen.start s.script seen.journal place closed (λ n. fits n s.script at.ready) at.legal stop) in
           record { models = at.models; start = at.start; legal = legal; ready = at.ready; within = at.within; stands = (place, (stands.0, subst P (sym is) later)); text = text_later seen.start seen.journal more s.standing.version known at.text }
       | false ↦ λ is.
           let did = take s.done s.script in
-          let known = known_version curve seen s is at in
+          let known = known_version calibration seen s is at in
           let S : Option ℕ → Type 0 = λ v. SameText (state_of seen) (state_of new) v in
           let same = subst S stands.0.shows.version (same_text seen.start seen.journal more s.standing.version known) in
-          let on = reach_others curve s.number seen.start did seen.journal more place (reaches_at curve seen s place is stands) others same in
-          record { models = at.models; start = at.start; legal = legal; ready = at.ready; within = at.within; stands = (place, going curve new s place is stands.0 on); text = text_later seen.start seen.journal more s.standing.version known at.text }
+          let on = reach_others calibration s.number seen.start did seen.journal more place (reaches_at calibration seen s place is stands) others same in
+          record { models = at.models; start = at.start; legal = legal; ready = at.ready; within = at.within; stands = (place, going calibration new s place is stands.0 on); text = text_later seen.start seen.journal more s.standing.version known at.text }
     ] refl
 
 -- A session is in its course still once others made entries.
-pub kept_at : (curve : Curve) (seen new : Seen) (s : Session) (more : List Entry) → IsClosed seen.start → IsAt curve seen s → AreOthers s.number more → new.start ≡ seen.start → new.journal ≡ seen.journal ++ more → IsLegal new.start new.journal → IsAt curve new s
-kept_at curve seen new s more closed at others begins grown legal =
+pub kept_at : (calibration : Calibration) (seen new : Seen) (s : Session) (more : List Entry) → IsClosed seen.start → IsAt calibration seen s → AreOthers s.number more → new.start ≡ seen.start → new.journal ≡ seen.journal ++ more → IsLegal new.start new.journal → IsAt calibration new s
+kept_at calibration seen new s more closed at others begins grown legal =
     let L : State → Type 0 = λ b. IsLegal b new.journal in
     let J : List Entry → Type 0 = λ j. IsLegal seen.start j in
     let same : record { start = seen.start; journal = seen.journal ++ more } ≡ new = ap₂ (λ (b : State) (j : List Entry). record { start = b; journal = j }) (sym begins) (sym grown) in
-    subst (λ (now : Seen). IsAt curve now s) same (kept_here curve seen s more closed at others (subst J grown (subst L begins legal)))
+    subst (λ (now : Seen). IsAt calibration now s) same (kept_here calibration seen s more closed at others (subst J grown (subst L begins legal)))
 
 -- A session that isn't stopped runs in the course of its whole script.
-pub runs_on : (curve : Curve) (seen : Seen) (s : Session) → s.stopped ≡ false → (at : IsAt curve seen s) →
-    IsRunning curve s.number seen.start s.script seen.journal (settled curve (state_of seen) (drop s.done s.script) at.stands.0)
-runs_on curve seen s run at =
-    let R : List Line → Type 0 = λ ls. IsRunning curve s.number seen.start ls seen.journal (settled curve (state_of seen) (drop s.done s.script) at.stands.0) in
-    subst R (take-append-drop s.done s.script) (reaches_at curve seen s at.stands.0 run at.stands.1 (drop s.done s.script))
+pub runs_on : (calibration : Calibration) (seen : Seen) (s : Session) → s.stopped ≡ false → (at : IsAt calibration seen s) →
+    IsRunning calibration s.number seen.start s.script seen.journal (settled calibration (state_of seen) (drop s.done s.script) at.stands.0)
+runs_on calibration seen s run at =
+    let R : List Line → Type 0 = λ ls. IsRunning calibration s.number seen.start ls seen.journal (settled calibration (state_of seen) (drop s.done s.script) at.stands.0) in
+    subst R (take-append-drop s.done s.script) (reaches_at calibration seen s at.stands.0 run at.stands.1 (drop s.done s.script))

@@ -1,11 +1,10 @@
 -- What a turn makes of a world, told by the journal alone: it fixes where each session is that runs.
 use Rattle.std.proofs.Common.{◌≡◌, ℕ, suc, ◌<◌, List, [], ◌∷◌, ◌++◌, length, sym, ap, ap₂, subst, ◌∙◌, Some}
 use Rattle.std.specs.Prelude.{slice_get, slice_set}
-use Rattle.cg_meaning.specs.Curve.{Curve}
 use Rattle.cg_sharing.specs.Command.{Line}
 use Rattle.cg_sharing.specs.Versions.{State}
 use Rattle.cg_sharing.specs.Journal.{Answer, Entry, answer_of, after, state_after, IsLegal}
-use Rattle.cg_sharing.specs.Course.{Place, next, went, moved, begin, walk, Follows, IsRunning, AreFit}
+use Rattle.cg_sharing.specs.Course.{Calibration, Place, next, went, moved, begin, walk, Follows, IsRunning, AreFit}
 use Rattle.cg_sharing.specs.Interleaving.{World, world_after, advanced, turn}
 use Rattle.cg_sharing.proofs.JournalLemmas.{state_after-append, IsLegal-front, IsClosed, closed-after}
 use Rattle.cg_sharing.proofs.CourseLemmas.{running-own, running_knows, went_next}
@@ -16,13 +15,13 @@ legal_last state [] entry legal = legal.1
 legal_last state (x ∷ xs) entry legal = legal_last (after state x) xs entry legal.2
 
 -- and its act
-last_act : (curve : Curve) (session : ℕ) (state : State) (place : Place) (xs : List Entry) (entry : Entry) → entry.seat ≡ session → Follows curve session state place (xs ++ entry ∷ []) → next (walk curve session state place xs) ≡ Some entry.act
-last_act curve session state place [] entry own follows = follows.0 own
-last_act curve session state place (x ∷ xs) entry own follows = last_act curve session (after state x) (moved curve session (after state x) x place) xs entry own follows.1
+last_act : (calibration : Calibration) (session : ℕ) (state : State) (place : Place) (xs : List Entry) (entry : Entry) → entry.seat ≡ session → Follows calibration session state place (xs ++ entry ∷ []) → next (walk calibration session state place xs) ≡ Some entry.act
+last_act calibration session state place [] entry own follows = follows.0 own
+last_act calibration session state place (x ∷ xs) entry own follows = last_act calibration session (after state x) (moved calibration session (after state x) x place) xs entry own follows.1
 
 -- The journal fixes where a session is.
-pub same_place : (curve : Curve) (session : ℕ) (start : State) (script : List Line) (xs : List Entry) (p q : Place) → IsRunning curve session start script xs p → IsRunning curve session start script xs q → p ≡ q
-same_place curve session start script xs p q first second = first.reached ∙ sym second.reached
+pub same_place : (calibration : Calibration) (session : ℕ) (start : State) (script : List Line) (xs : List Entry) (p q : Place) → IsRunning calibration session start script xs p → IsRunning calibration session start script xs q → p ≡ q
+same_place calibration session start script xs p q first second = first.reached ∙ sym second.reached
 
 -- the world of a journal and places
 abbrev pub world_at : State → List Entry → List Place → World
@@ -35,39 +34,39 @@ same_world world start xs ys places state journal more same =
     ∙ ap₂ (λ (s : State) (es : List Entry). record { state = s; journal = es; places = world.places }) (sym state) (sym journal)
 
 -- One entry more of a session, which leaves its journal a course and legal.
-pub record IsNext (curve : Curve) (session : ℕ) (start : State) (script : List Line) (xs : List Entry) (entry : Entry) (before after : Place) : Type 0 where
+pub record IsNext (calibration : Calibration) (session : ℕ) (start : State) (script : List Line) (xs : List Entry) (entry : Entry) (before after : Place) : Type 0 where
   pub own : entry.seat ≡ session
-  pub ran : IsRunning curve session start script xs before
-  pub runs : IsRunning curve session start script (xs ++ entry ∷ []) after
+  pub ran : IsRunning calibration session start script xs before
+  pub runs : IsRunning calibration session start script (xs ++ entry ∷ []) after
   pub legal : IsLegal start (xs ++ entry ∷ [])
 
-next_act : (curve : Curve) (session : ℕ) (start : State) (script : List Line) (xs : List Entry) (entry : Entry) (q p : Place) → IsNext curve session start script xs entry q p → next q ≡ Some entry.act
-next_act curve session start script xs entry q p is =
-    ap (λ r. next r) is.ran.reached ∙ last_act curve session start (begin curve session start script) xs entry is.own is.runs.follows
+next_act : (calibration : Calibration) (session : ℕ) (start : State) (script : List Line) (xs : List Entry) (entry : Entry) (q p : Place) → IsNext calibration session start script xs entry q p → next q ≡ Some entry.act
+next_act calibration session start script xs entry q p is =
+    ap (λ r. next r) is.ran.reached ∙ last_act calibration session start (begin calibration session start script) xs entry is.own is.runs.follows
 
-next_place : (curve : Curve) (session : ℕ) (start : State) (script : List Line) (xs : List Entry) (entry : Entry) (q p : Place) → IsNext curve session start script xs entry q p → went curve (after (state_after start xs) entry) entry.answer q ≡ p
-next_place curve session start script xs entry q p is =
-    same_place curve session start script (xs ++ entry ∷ []) (went curve (after (state_after start xs) entry) entry.answer q) p
-    (running-own curve session start script xs entry q is.ran is.own (next_act curve session start script xs entry q p is)) is.runs
+next_place : (calibration : Calibration) (session : ℕ) (start : State) (script : List Line) (xs : List Entry) (entry : Entry) (q p : Place) → IsNext calibration session start script xs entry q p → went calibration (after (state_after start xs) entry) entry.answer q ≡ p
+next_place calibration session start script xs entry q p is =
+    same_place calibration session start script (xs ++ entry ∷ []) (went calibration (after (state_after start xs) entry) entry.answer q) p
+    (running-own calibration session start script xs entry q is.ran is.own (next_act calibration session start script xs entry q p is)) is.runs
 
 -- A turn of the session makes it,
-pub turn_makes : (curve : Curve) (i : ℕ) (start : State) (script : List Line) (xs : List Entry) (places : List Place) (entry : Entry) (q p : Place) → slice_get places i ≡ Some q → IsNext curve (suc i) start script xs entry q p →
-    turn curve (suc i) (world_at start xs places) ≡ world_at start (xs ++ entry ∷ []) (slice_set places i p)
-turn_makes curve i start script xs places entry q p here is =
+pub turn_makes : (calibration : Calibration) (i : ℕ) (start : State) (script : List Line) (xs : List Entry) (places : List Place) (entry : Entry) (q p : Place) → slice_get places i ≡ Some q → IsNext calibration (suc i) start script xs entry q p →
+    turn calibration (suc i) (world_at start xs places) ≡ world_at start (xs ++ entry ∷ []) (slice_set places i p)
+turn_makes calibration i start script xs places entry q p here is =
     let state = state_after start xs in
-    let made : Entry → World = λ e. record { state = after state e; journal = xs ++ e ∷ []; places = slice_set places i (went curve (after state e) e.answer q) } in
+    let made : Entry → World = λ e. record { state = after state e; journal = xs ++ e ∷ []; places = slice_set places i (went calibration (after state e) e.answer q) } in
     let same : record { seat = suc i; act = entry.act; answer = answer_of state entry.act } ≡ entry =
     ap₂ (λ (n : ℕ) (a : Answer). record { seat = n; act = entry.act; answer = a }) (sym is.own) (sym (legal_last start xs entry is.legal)) in
-    ap (λ o. advanced curve (suc i) o (world_at start xs places)) here
-    ∙ ap (λ a. world_after curve (suc i) q a (world_at start xs places)) (next_act curve (suc i) start script xs entry q p is)
+    ap (λ o. advanced calibration (suc i) o (world_at start xs places)) here
+    ∙ ap (λ a. world_after calibration (suc i) q a (world_at start xs places)) (next_act calibration (suc i) start script xs entry q p is)
     ∙ ap made same
-    ∙ ap₂ (λ (s : State) (r : Place). record { state = s; journal = xs ++ entry ∷ []; places = slice_set places i r }) (sym (state_after-append start xs (entry ∷ []))) (next_place curve (suc i) start script xs entry q p is)
+    ∙ ap₂ (λ (s : State) (r : Place). record { state = s; journal = xs ++ entry ∷ []; places = slice_set places i r }) (sym (state_after-append start xs (entry ∷ []))) (next_place calibration (suc i) start script xs entry q p is)
 
 -- and leaves fewer lines.
-pub turn_shortens : (curve : Curve) (session : ℕ) (start : State) (script : List Line) (xs : List Entry) (entry : Entry) (q p : Place) → IsClosed start → AreFit script → IsNext curve session start script xs entry q p → length p.left < length q.left
-turn_shortens curve session start script xs entry q p closed fit is =
+pub turn_shortens : (calibration : Calibration) (session : ℕ) (start : State) (script : List Line) (xs : List Entry) (entry : Entry) (q p : Place) → IsClosed start → AreFit script → IsNext calibration session start script xs entry q p → length p.left < length q.left
+turn_shortens calibration session start script xs entry q p closed fit is =
     let state = state_after start xs in
     let front = IsLegal-front start xs (entry ∷ []) is.legal in
-    let known = running_knows curve session start script xs q closed fit front is.ran in
-    let new = went_next curve state q entry.act entry.answer known.0 known.1 (closed-after start xs front closed) (next_act curve session start script xs entry q p is) (legal_last start xs entry is.legal) in
-    subst (λ (r : Place). length r.left < length q.left) (next_place curve session start script xs entry q p is) new.2
+    let known = running_knows calibration session start script xs q closed fit front is.ran in
+    let new = went_next calibration state q entry.act entry.answer known.0 known.1 (closed-after start xs front closed) (next_act calibration session start script xs entry q p is) (legal_last start xs entry is.legal) in
+    subst (λ (r : Place). length r.left < length q.left) (next_place calibration session start script xs entry q p is) new.2

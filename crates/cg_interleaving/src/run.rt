@@ -1,6 +1,6 @@
 ghost use Rattle.std.specs.Prelude.{◌≤◌, length, All, IfOk};
 ghost use Rattle.cg_sharing.specs.Course.{AreFit};
-ghost use Rattle.cg_session.specs.Standing.{first_curve};
+ghost use Rattle.cg_session.specs.Calibration.{calibration_of};
 ghost use Rattle.cg_interleaving.specs.Run.{IsRunOf};
 
 use crate::sessions::Sessions;
@@ -26,8 +26,9 @@ pub struct Run {
 
 /// Runs a session of each script over one book of these models, at most eight. The sessions are numbered from 1 in the
 /// order of the scripts. Each turn names a session, which makes its next act, if it has one; a number that is no
-/// session's does nothing. When the turns are used up, the sessions run to their ends in their order. The first of the
-/// curves serves all radiocarbon dates. Each product of two enclosures in a print's tables is a step.
+/// session's does nothing. When the turns are used up, the sessions run to their ends in their order. A model's dates
+/// are read off the curve that it names, or the first where it names none. Each product of two enclosures in the tables
+/// of a marginal is a step.
 ///
 /// `NoMemory` comes only before a session has begun. Want of memory later stops one session, and the others go on.
 pub fn run_in_turns<L: Ledger>(
@@ -40,7 +41,7 @@ pub fn run_in_turns<L: Ledger>(
 ) -> Result<Run, NoMemory>
     requires ready { All AreFit scripts.items }
     requires few { length scripts.items ≤ 8 }
-    ensures { IfOk result (λ run. IsRunOf (first_curve curves.now) models scripts.items turns.now run) }
+    ensures { IfOk result (λ run. IsRunOf (calibration_of curves.now) models scripts.items turns.now run) }
 {
     let mut transcripts = Vec::new(alloc);
     transcripts.reserve(scripts.len())?;

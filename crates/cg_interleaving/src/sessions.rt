@@ -1,11 +1,10 @@
 ghost use Rattle.std.specs.Prelude.{◌≡◌, ◌≢◌, ◌+◌, ◌<◌, ◌≤◌, ◌∷◌, [], suc, ℕ, List, length, map, replicate, vec_capacity, false, All, IfOk};
 ghost use Rattle.std.specs.List.{list_any};
-ghost use Rattle.cg_meaning.specs.Curve.{Curve};
 ghost use Rattle.cg_sharing.specs.Versions.{StartModel, start_of};
 ghost use Rattle.cg_sharing.specs.Journal.{IsLegal};
-ghost use Rattle.cg_sharing.specs.Course.{AreFit};
+ghost use Rattle.cg_sharing.specs.Course.{Calibration, AreFit};
 ghost use Rattle.cg_sharing.specs.Interleaving.{World, begun, last_turns};
-ghost use Rattle.cg_session.specs.Standing.{first_curve};
+ghost use Rattle.cg_session.specs.Calibration.{calibration_of};
 ghost use Rattle.cg_session.specs.Session.{script_of, is_stopped};
 ghost use Rattle.cg_interleaving.specs.Run.{written_in};
 ghost use Rattle.cg_interleaving.specs.Taking.{AreAt, CanGoOn, AreIn, HaveTaken, lines_at, HasEndAt, Advances, AreTexts};
@@ -33,8 +32,8 @@ pub(crate) struct Sessions {
 fn begin(alloc: Global, scripts: Vec<Script>) -> Result<Vec<Session>, NoMemory>
     requires ready { All AreFit scripts.items }
     requires few { length scripts.items ≤ 8 }
-    ensures at { IfOk result (λ list. (curve : Curve) (models : List StartModel)
-        → AreAt curve record { start = start_of models; journal = [] } 1 list.items) }
+    ensures at { IfOk result (λ list. (calibration : Calibration) (models : List StartModel)
+        → AreAt calibration record { start = start_of models; journal = [] } 1 list.items) }
     ensures read { IfOk result (λ list. map script_of list.items ≡ scripts.items) }
     ensures going { IfOk result (λ list. list_any is_stopped list.items ≡ false) }
 {
@@ -55,8 +54,9 @@ impl Sessions {
     ) -> Result<Sessions, NoMemory>
         requires ready { All AreFit scripts.items }
         requires few { length scripts.items ≤ 8 }
-        ensures can { IfOk result (λ all. (curve : Curve) → CanGoOn curve all) }
-        ensures here { IfOk result (λ all. (curve : Curve) → AreIn curve (begun curve models scripts.items) all) }
+        ensures can { IfOk result (λ all. (calibration : Calibration) → CanGoOn calibration all) }
+        ensures here { IfOk result (λ all. (calibration : Calibration)
+            → AreIn calibration (begun calibration models scripts.items) all) }
         ensures read { IfOk result (λ all. map script_of all.list.items ≡ scripts.items) }
         ensures start { IfOk result (λ all. all.book.start ≡ start_of models) }
     {
@@ -77,9 +77,9 @@ impl Sessions {
         curves: &Curves,
         steps: &mut Steps<L>,
     ) -> bool
-        requires can { CanGoOn (first_curve curves.now) self.old }
+        requires can { CanGoOn (calibration_of curves.now) self.old }
         requires within { place < length self.old.list.items }
-        ensures { Advances (first_curve curves.now) place result self.old self.new }
+        ensures { Advances (calibration_of curves.now) place result self.old self.new }
     {
         let mut port = BookPort {
             book: &mut self.book,
@@ -103,11 +103,12 @@ impl Sessions {
         curves: &Curves,
         steps: &mut Steps<L>,
     )
-        requires { CanGoOn (first_curve curves.now) self.old }
-        ensures can { CanGoOn (first_curve curves.now) self.new }
+        requires { CanGoOn (calibration_of curves.now) self.old }
+        ensures can { CanGoOn (calibration_of curves.now) self.new }
         ensures same { map script_of self.new.list.items ≡ map script_of self.old.list.items }
         ensures start { self.new.book.start ≡ self.old.book.start }
-        ensures taken { (world : World) → AreIn (first_curve curves.now) world self.old → HaveTaken (first_curve curves.now) (number ∷ []) world self.new }
+        ensures taken { (world : World) → AreIn (calibration_of curves.now) world self.old
+            → HaveTaken (calibration_of curves.now) (number ∷ []) world self.new }
     {
         if 1 <= number && number <= self.list.len() {
             self.advance(alloc, number - 1, curves, steps);
@@ -122,11 +123,12 @@ impl Sessions {
         curves: &Curves,
         steps: &mut Steps<L>,
     )
-        requires { CanGoOn (first_curve curves.now) self.old }
-        ensures can { CanGoOn (first_curve curves.now) self.new }
+        requires { CanGoOn (calibration_of curves.now) self.old }
+        ensures can { CanGoOn (calibration_of curves.now) self.new }
         ensures same { map script_of self.new.list.items ≡ map script_of self.old.list.items }
         ensures start { self.new.book.start ≡ self.old.book.start }
-        ensures taken { (world : World) → AreIn (first_curve curves.now) world self.old → HaveTaken (first_curve curves.now) turns.now world self.new }
+        ensures taken { (world : World) → AreIn (calibration_of curves.now) world self.old
+            → HaveTaken (calibration_of curves.now) turns.now world self.new }
     {
         for number in turns {
             self.turn(alloc, *number as usize, curves, steps);
@@ -141,27 +143,30 @@ impl Sessions {
         curves: &Curves,
         steps: &mut Steps<L>,
     )
-        requires can { CanGoOn (first_curve curves.now) self.old }
+        requires can { CanGoOn (calibration_of curves.now) self.old }
         requires within { place < length self.old.list.items }
-        ensures can { CanGoOn (first_curve curves.now) self.new }
+        ensures can { CanGoOn (calibration_of curves.now) self.new }
         ensures same { map script_of self.new.list.items ≡ map script_of self.old.list.items }
         ensures start { self.new.book.start ≡ self.old.book.start }
-        ensures taken { (world : World) → AreIn (first_curve curves.now) world self.old
-            → HaveTaken (first_curve curves.now) (replicate (lines_at place world + 1) (suc place)) world self.new }
-        ensures others { (other : ℕ) → other ≢ place → HasEndAt (first_curve curves.now) other self.old → HasEndAt (first_curve curves.now) other self.new }
-        ensures over { HasEndAt (first_curve curves.now) place self.new }
+        ensures taken { (world : World) → AreIn (calibration_of curves.now) world self.old
+            → HaveTaken (calibration_of curves.now) (replicate (lines_at place world + 1) (suc place)) world self.new }
+        ensures others { (other : ℕ) → other ≢ place → HasEndAt (calibration_of curves.now) other self.old
+            → HasEndAt (calibration_of curves.now) other self.new }
+        ensures over { HasEndAt (calibration_of curves.now) place self.new }
     {
         while self.advance(alloc, place, curves, steps) {}
     }
 
     /// Lets all sessions advance to their ends, in their order.
     pub fn finish_all<L: Ledger>(&mut self, alloc: Global, curves: &Curves, steps: &mut Steps<L>)
-        requires { CanGoOn (first_curve curves.now) self.old }
-        ensures can { CanGoOn (first_curve curves.now) self.new }
+        requires { CanGoOn (calibration_of curves.now) self.old }
+        ensures can { CanGoOn (calibration_of curves.now) self.new }
         ensures same { map script_of self.new.list.items ≡ map script_of self.old.list.items }
         ensures start { self.new.book.start ≡ self.old.book.start }
-        ensures taken { (world : World) → AreIn (first_curve curves.now) world self.old → HaveTaken (first_curve curves.now) (last_turns 1 world.places) world self.new }
-        ensures over { (place : ℕ) → place < length self.old.list.items → HasEndAt (first_curve curves.now) place self.new }
+        ensures taken { (world : World) → AreIn (calibration_of curves.now) world self.old
+            → HaveTaken (calibration_of curves.now) (last_turns 1 world.places) world self.new }
+        ensures over { (place : ℕ) → place < length self.old.list.items
+            → HasEndAt (calibration_of curves.now) place self.new }
     {
         for place in 0..self.list.len() {
             self.finish(alloc, place, curves, steps);

@@ -5,14 +5,14 @@ use Rattle.cg_words.specs.Words.{Request, AreWords, AreNoWords}
 use Rattle.cg_words.proofs.AskLemmas.{one-thing}
 use Rattle.cg_files.specs.Reading as files
 use Rattle.cg_files.specs.Reading.{EndsWith}
-use Rattle.cg_files.specs.Inputs.{Inputs, files_of, said_by}
+use Rattle.cg_files.specs.Inputs.{Inputs, names_of, files_of, said_by}
 use Rattle.cg_files.specs.declared.file.FileFault.{FileFault}
 use Rattle.cg_files.specs.declared.file.FileFault.TheVariants as fault
 use Rattle.cg_files.proofs.OneEndLemmas.{have_one_end}
 use Rattle.cg_run.specs.Run.{AreAccepted, EndsAt, FilesCause, CausesStatus}
 use Rattle.cg_run.specs.Status.{status_of}
-use Rattle.cg_run.specs.declared.status.Status.{Status}
-use Rattle.cg_run.specs.declared.status.Status.TheVariants.{Done, Usage, ReadFault, Refused, WriteFault, NoMemory}
+use Rattle.cg_report.specs.declared.status.Status.{Status}
+use Rattle.cg_report.specs.declared.status.Status.TheVariants.{Done, Usage, ReadFault, Refused, WriteFault, NoMemory}
 
 -- the words ask for nothing, or the files cause a fault
 record ByFiles (words : List (List ℕ)) (told : Option Files) (status : Status) : Type 0 where
@@ -35,7 +35,7 @@ module _ (words : List (List ℕ)) (told : Files) where
   one_fault : (f g : FileFault) → FilesCause words (Some told) f → FilesCause words (Some told) g → f ≡ g
   one_fault f g x y =
       let same = one-thing words x.request y.request x.asks y.asks in
-      (have_one_end told (files_of y.request)).one f g (subst (λ r. files.CausesFault (Some told) (files_of r) f) same x.cause) y.cause
+      (have_one_end (names_of y.request.curves) told (files_of y.request)).one f g (subst (λ r. files.CausesFault (names_of r.curves) (Some told) (files_of r) f) same x.cause) y.cause
 
   one_origin : (a b : Status) → Origin words (Some told) a → Origin words (Some told) b → a ≡ b
   one_origin a b (inl x) (inl y) = x.1 ∙ sym y.1
@@ -47,8 +47,8 @@ module _ (words : List (List ℕ)) (told : Files) where
   no_origin a request inputs (inl x) accepts = x.0 request accepts.asks
   no_origin a request inputs (inr x) accepts =
       let same = one-thing words x.cause.request request x.cause.asks accepts.asks in
-      (have_one_end told (files_of request)).none (said_by inputs) x.why accepts.files.accepted
-      (subst (λ r. files.CausesFault (Some told) (files_of r) x.why) same x.cause.cause)
+      (have_one_end (names_of request.curves) told (files_of request)).none (said_by inputs) x.why accepts.files.accepted
+      (subst (λ r. files.CausesFault (names_of r.curves) (Some told) (files_of r) x.why) same x.cause.cause)
 
 -- the status of a run of which no session began
 abbrev pub IsUnbegun : List (List ℕ) → Option Files → Status → Type 0
@@ -59,20 +59,20 @@ unasked words told status is none = inr (subst (λ s. CausesStatus words told s)
 
 -- a run that ends at a file has that cause
 pub ended_at : (words : List (List ℕ)) (told now : Option Files) (request : Request) (why : FileFault) (status : Status) → status ≡ status_of why → AreWords words request →
-    EndsWith told now (files_of request) why → IsUnbegun words told status
+    EndsWith (names_of request.curves) told now (files_of request) why → IsUnbegun words told status
 ended_at words told now request why status is asks end = subst (λ s. IsUnbegun words told s) (sym is) (at_fault why end)
   where
-    at_fault : (f : FileFault) → EndsWith told now (files_of request) f → IsUnbegun words told (status_of f)
+    at_fault : (f : FileFault) → EndsWith (names_of request.curves) told now (files_of request) f → IsUnbegun words told (status_of f)
     at_fault (fault.Failed file) h = inr (record { request = request; asks = asks; cause = h.cause })
     at_fault (fault.Refused file line cause) h = inr (record { request = request; asks = asks; cause = h.refusal })
     at_fault fault.NoMemory h = inl refl
 
 -- only a file's fault ends in a status that names the file
 pub named_fault : (words : List (List ℕ)) (told now : Option Files) (request : Request) (why wanted : FileFault) → status_of why ≡ status_of wanted → AreWords words request →
-    EndsWith told now (files_of request) why → (why ≡ wanted) × EndsAt words told now wanted
+    EndsWith (names_of request.curves) told now (files_of request) why → (why ≡ wanted) × EndsAt words told now wanted
 named_fault words told now request why wanted is asks end =
     let same : why ≡ wanted = one_status why wanted is in
-    (same, record { request = request; asks = asks; end = subst (λ f. EndsWith told now (files_of request) f) same end })
+    (same, record { request = request; asks = asks; end = subst (λ f. EndsWith (names_of request.curves) told now (files_of request) f) same end })
   where
     one_status : (f g : FileFault) → status_of f ≡ status_of g → f ≡ g
     one_status (fault.Failed a) (fault.Failed b) e = cc

@@ -1,29 +1,33 @@
 -- How a run ends, by the words, the shelf's files, the journal and what the sink takes.
-use Rattle.std.specs.Prelude.{◌≡◌, ℕ, ◌<◌, Bool, true, false, List, length, take, Option}
+use Rattle.std.specs.Prelude.{◌≡◌, ℕ, ◌<◌, Bool, true, false, List, [], ◌∷◌, length, take, Option, IfSome}
 use Rattle.std.specs.List.{All, concat}
 use Rattle.cg_meaning.specs.Tree.{root_of}
 use Rattle.cg_io.specs.Shelf.{Files}
 use Rattle.cg_io.specs.Sink.{Takes}
 use Rattle.cg_recipe.specs.Recipe.{recipe}
 use Rattle.cg_recipe.specs.Laws.{IsRight}
+use Rattle.cg_ranges.specs.Cover.{cover}
+use Rattle.cg_ranges.specs.Laws.{Covers}
 use Rattle.cg_sharing.specs.Versions.{start_of}
 use Rattle.cg_sharing.specs.Journal.{Entry, IsLegal}
-use Rattle.cg_sharing.specs.Pieces.{Print, prints_of}
+use Rattle.cg_sharing.specs.Pieces.{Print, prints_of, ranges_of}
 use Rattle.cg_sharing.specs.Course.{Place}
-use Rattle.cg_sharing.specs.Interleaving.{World, interleaving, IsInterleaving, some_stopped, transcripts_of, IsOfSession}
-use Rattle.cg_session.specs.Standing.{first_curve}
+use Rattle.cg_sharing.specs.Interleaving.{World, interleaving, IsInterleaving, some_stopped, IsOfSession}
+use Rattle.cg_report.specs.Transcript.{transcripts_of}
+use Rattle.cg_report.specs.declared.status.Status.{Status}
+use Rattle.cg_report.specs.declared.status.Status.TheVariants.{Done, Usage, ReadFault, Refused, WriteFault, NoMemory}
+use Rattle.cg_session.specs.Calibration.{calibration_of}
 use Rattle.cg_interleaving.specs.Run.{AreOver}
 use Rattle.cg_words.specs.Words.{Request, AreWords, AreNoWords}
 use Rattle.cg_files.specs.Shelf.{Reads}
 use Rattle.cg_files.specs.Reading as files
-use Rattle.cg_files.specs.Inputs.{Inputs, files_of, AreInputs}
+use Rattle.cg_files.specs.Inputs.{Inputs, names_of, files_of, AreInputs}
 use Rattle.cg_files.specs.declared.file.FileFault.{FileFault}
 use Rattle.cg_files.specs.declared.file.FileFault.TheVariants as fault
-use Rattle.cg_run.specs.declared.status.Status.{Status}
-use Rattle.cg_run.specs.declared.status.Status.TheVariants.{Done, Usage, ReadFault, Refused, WriteFault, NoMemory}
 
 -- The words ask for files that are all accepted, and this is what they say.
-pub record AreAccepted (words : List (List ℕ)) (told : Option Files) (request : Request) (inputs : Inputs) : Type 0 where
+pub record AreAccepted (words : List (List ℕ)) (told : Option Files) (request : Request)
+    (inputs : Inputs) : Type 0 where
   pub asks : AreWords words request
   pub files : AreInputs told request inputs
 
@@ -33,19 +37,19 @@ pub record ReadsAll (words : List (List ℕ)) (told now : Option Files) : Type 0
   pub asks : AreWords words request
   pub reads : Reads (length (files_of request)) told now
 
--- The files are accepted, and their sessions took the turns of the words, in any of which want of memory may have stopped
--- one: the journal is that of the world where this led. It is legal, each entry is of one of the sessions, and the entries
--- of each session are a course of its script that is over.
+-- The files are accepted, and their sessions took the turns of the words, in any of which want of memory may have
+-- stopped one: the journal is that of the world where this led. It is legal, each entry is of one of the sessions, and
+-- the entries of each session are a course of its script that is over.
 pub record IsJournal (words : List (List ℕ)) (told : Option Files) (journal : List Entry) : Type 0 where
   pub request : Request
   pub inputs : Inputs
   pub accepted : AreAccepted words told request inputs
   pub world : World
-  pub interleaved : IsInterleaving (first_curve inputs.curves) inputs.models inputs.scripts request.turns world
+  pub interleaved : IsInterleaving (calibration_of inputs.curves) inputs.models inputs.scripts request.turns world
   pub is : journal ≡ world.journal
   pub legal : IsLegal (start_of inputs.models) journal
   pub seats : All (IsOfSession (length inputs.scripts)) journal
-  pub over : AreOver (first_curve inputs.curves) 1 (start_of inputs.models) inputs.scripts journal world.places
+  pub over : AreOver (calibration_of inputs.curves) 1 (start_of inputs.models) inputs.scripts journal world.places
 
 -- what sessions write that end at these places, in their order
 abbrev pub output_of : List Place → List ℕ
@@ -55,14 +59,29 @@ output_of places = concat (transcripts_of recipe 1 places)
 abbrev pub IsRightPrint : Print → Type 0
 IsRightPrint print = IsRight (root_of print.chronology) print.scene print.event
 
--- The sessions ran, and the output is what they wrote, each marginal in it being right. It is told whether want of memory
--- stopped one; where it stopped none, the turns decide all.
-pub record HaveRun (words : List (List ℕ)) (told : Option Files) (journal : List Entry) (output : List ℕ) (stopped : Bool) : Type 0 where
+-- the parts of a posterior that ranges cover: 68.3, 95.4 and 99.7 per cent, in parts per million
+abbrev pub targets : List ℕ
+targets = 683000 ∷ 954000 ∷ 997000 ∷ []
+
+-- each range that is printed has its part of the event's posterior, under every admitted weighting
+abbrev pub AreRightRanges : Print → Type 0
+AreRightRanges print =
+    let tree = root_of print.chronology in
+    IfSome (recipe tree print.scene print.event)
+    (λ pairs. All (λ target. Covers tree print.scene print.event target (cover pairs target)) targets)
+
+-- The sessions ran, and the output is what they wrote, each marginal and each range in it being right. It is told
+-- whether want of memory stopped one; where it stopped none, the turns decide all.
+pub record HaveRun (words : List (List ℕ)) (told : Option Files) (journal : List Entry) (output : List ℕ)
+    (stopped : Bool) : Type 0 where
   pub entries : IsJournal words told journal
   pub some : stopped ≡ some_stopped entries.world.places
-  pub whole : stopped ≡ false → entries.world ≡ interleaving (first_curve entries.inputs.curves) entries.inputs.models entries.inputs.scripts entries.request.turns
+  pub whole : stopped ≡ false → entries.world ≡
+      interleaving (calibration_of entries.inputs.curves) entries.inputs.models entries.inputs.scripts
+      entries.request.turns
   pub written : output ≡ output_of entries.world.places
   pub right : All (λ place. All IsRightPrint (prints_of place.written)) entries.world.places
+  pub ranges : All (λ place. All AreRightRanges (ranges_of place.written)) entries.world.places
 
 -- The sink took all of the output.
 pub record TakesAll (before after : Option (List ℕ)) (output : List ℕ) (taken : ℕ) : Type 0 where
@@ -70,13 +89,15 @@ pub record TakesAll (before after : Option (List ℕ)) (output : List ℕ) (take
   pub count : taken ≡ length output
 
 -- Each session did all of its script in the turns of the words, and all of the output was taken.
-pub record IsDone (words : List (List ℕ)) (told : Option Files) (before after : Option (List ℕ)) (journal : List Entry) (taken : ℕ) : Type 0 where
+pub record IsDone (words : List (List ℕ)) (told : Option Files) (before after : Option (List ℕ))
+    (journal : List Entry) (taken : ℕ) : Type 0 where
   pub output : List ℕ
   pub ran : HaveRun words told journal output false
   pub took : TakesAll before after output taken
 
 -- Only the first bytes of the output were taken.
-pub record IsCutOff (words : List (List ℕ)) (told : Option Files) (before after : Option (List ℕ)) (journal : List Entry) (taken : ℕ) : Type 0 where
+pub record IsCutOff (words : List (List ℕ)) (told : Option Files) (before after : Option (List ℕ))
+    (journal : List Entry) (taken : ℕ) : Type 0 where
   pub output : List ℕ
   pub stopped : Bool
   pub ran : HaveRun words told journal output stopped
@@ -84,7 +105,8 @@ pub record IsCutOff (words : List (List ℕ)) (told : Option Files) (before afte
   pub fewer : taken < length output
 
 -- Want of memory stopped a session, and all of the output was taken.
-pub record HasStopped (words : List (List ℕ)) (told : Option Files) (before after : Option (List ℕ)) (journal : List Entry) (taken : ℕ) : Type 0 where
+pub record HasStopped (words : List (List ℕ)) (told : Option Files) (before after : Option (List ℕ))
+    (journal : List Entry) (taken : ℕ) : Type 0 where
   pub output : List ℕ
   pub ran : HaveRun words told journal output true
   pub took : TakesAll before after output taken
@@ -93,13 +115,13 @@ pub record HasStopped (words : List (List ℕ)) (told : Option Files) (before af
 pub record EndsAt (words : List (List ℕ)) (told now : Option Files) (why : FileFault) : Type 0 where
   pub request : Request
   pub asks : AreWords words request
-  pub end : files.EndsWith told now (files_of request) why
+  pub end : files.EndsWith (names_of request.curves) told now (files_of request) why
 
 -- The files that the words ask for cause this fault.
 pub record FilesCause (words : List (List ℕ)) (told : Option Files) (why : FileFault) : Type 0 where
   pub request : Request
   pub asks : AreWords words request
-  pub cause : files.CausesFault told (files_of request) why
+  pub cause : files.CausesFault (names_of request.curves) told (files_of request) why
 
 -- what ends a run before a session begins
 abbrev pub CausesStatus : List (List ℕ) → Option Files → Status → Type 0

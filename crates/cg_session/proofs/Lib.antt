@@ -1,7 +1,7 @@
 pub mod AdvanceLemmas
 pub mod BaseLemmas
 pub mod CoverLemmas
-pub mod LineLemmas
+pub mod CurveLemmas
 pub mod PortLemmas
 pub mod SessionLemmas
 pub mod StandingLemmas

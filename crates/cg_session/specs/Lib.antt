@@ -1,4 +1,4 @@
-pub mod Cause
+pub mod Calibration
 pub mod Port
 pub mod Session
 pub mod Standing

@@ -1,10 +1,9 @@
 -- Where the code's session is in its course.
 use Rattle.std.specs.Prelude.{◌≡◌, ℕ, ◌-◌, ◌<◌, ◌≤◌, List, [], ◌++◌, length, take, slice_get, Bool, MatchBool, false, Some, vec_len, vec_capacity}
-use Rattle.cg_meaning.specs.Curve.{Curve}
 use Rattle.cg_sharing.specs.Command.{Line}
 use Rattle.cg_sharing.specs.Versions.{StartModel, start_of}
 use Rattle.cg_sharing.specs.Journal.{Act, Answer, Entry, IsLegal}
-use Rattle.cg_sharing.specs.Course.{Place, act_of, AreOthers, IsRunning, IsEnded, IsStopped, Reaches, AreFit}
+use Rattle.cg_sharing.specs.Course.{Calibration, Place, act_of, AreOthers, IsRunning, IsEnded, IsStopped, Reaches, AreFit}
 use Rattle.cg_book.specs.Plain.{Seen, state_of, asked}
 use Rattle.cg_session.specs.declared.session.Session.{Session}
 use Rattle.cg_session.specs.declared.session.Progress.{Progress}
@@ -35,15 +34,15 @@ pub record IsIn (session : Session) (place : Place) : Type 0 where
   pub stopped : session.stopped ≡ place.stopped
 
 -- it is in a place to which its script has run, or where want of memory stopped it
-abbrev pub StandsAt : Curve → Seen → Session → Place → Type 0
-StandsAt curve seen session place =
+abbrev pub StandsAt : Calibration → Seen → Session → Place → Type 0
+StandsAt calibration seen session place =
     IsIn session place
     × MatchBool session.stopped
-    (IsStopped curve session.number seen.start session.script seen.journal place)
-    (Reaches curve session.number seen.start (take session.done session.script) seen.journal place)
+    (IsStopped calibration session.number seen.start session.script seen.journal place)
+    (Reaches calibration session.number seen.start (take session.done session.script) seen.journal place)
 
-abbrev pub Stands : Curve → Seen → Session → Type 0
-Stands curve seen session = (place : Place) × StandsAt curve seen session place
+abbrev pub Stands : Calibration → Seen → Session → Type 0
+Stands calibration seen session = (place : Place) × StandsAt calibration seen session place
 
 -- What a seat has seen that has made no entry yet: a legal journal, over the versions of models.
 pub record IsFresh (seat : ℕ) (seen : Seen) : Type 0 where
@@ -54,13 +53,13 @@ pub record IsFresh (seat : ℕ) (seen : Seen) : Type 0 where
 
 -- The session is at a state of the course of its script, by what its seat has seen: a legal journal, over the versions
 -- of models.
-pub record IsAt (curve : Curve) (seen : Seen) (session : Session) : Type 0 where
+pub record IsAt (calibration : Calibration) (seen : Seen) (session : Session) : Type 0 where
   pub models : List StartModel
   pub start : seen.start ≡ start_of models
   pub legal : IsLegal seen.start seen.journal
   pub ready : AreFit session.script
   pub within : session.done ≤ length session.script
-  pub stands : Stands curve seen session
+  pub stands : Stands calibration seen session
   pub text : HasText (state_of seen) session.standing.version
 
 -- the same session, as far as its number, its script and whether it is stopped go, at the same version
@@ -89,15 +88,15 @@ pub record Makes (alone : Type 0) (old new : Seen) (before after : Session) : Ty
   pub fewer : left_of after < left_of before
 
 -- No entry of the seat came, and all of the script is done.
-pub record Ends (curve : Curve) (old new : Seen) (after : Session) : Type 0 where
+pub record Ends (calibration : Calibration) (old new : Seen) (after : Session) : Type 0 where
   pub same : new ≡ old
   pub place : Place
   pub here : IsIn after place
-  pub running : IsRunning curve after.number new.start after.script new.journal place
+  pub running : IsRunning calibration after.number new.start after.script new.journal place
   pub ended : IsEnded place
 
 -- No entry of the seat came, and want of memory has stopped the session.
-pub record Stops (curve : Curve) (alone : Type 0) (old new : Seen) (before after : Session) : Type 0 where
+pub record Stops (calibration : Calibration) (alone : Type 0) (old new : Seen) (before after : Session) : Type 0 where
   pub others : List Entry
   pub theirs : AreOthers before.number others
   pub none : alone → others ≡ []
@@ -105,10 +104,10 @@ pub record Stops (curve : Curve) (alone : Type 0) (old new : Seen) (before after
   pub journal : new.journal ≡ old.journal ++ others
   pub place : Place
   pub here : IsIn after place
-  pub stopped : IsStopped curve after.number new.start after.script new.journal place
+  pub stopped : IsStopped calibration after.number new.start after.script new.journal place
 
 -- what a call of `advance` did
-abbrev pub Came : Curve → Progress → Type 0 → Seen → Seen → Session → Session → Type 0
-Came curve Moved alone old new before after = Makes alone old new before after
-Came curve Ended alone old new before after = Ends curve old new after
-Came curve Stopped alone old new before after = Stops curve alone old new before after
+abbrev pub Came : Calibration → Progress → Type 0 → Seen → Seen → Session → Session → Type 0
+Came calibration Moved alone old new before after = Makes alone old new before after
+Came calibration Ended alone old new before after = Ends calibration old new after
+Came calibration Stopped alone old new before after = Stops calibration alone old new before after

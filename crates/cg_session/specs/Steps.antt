@@ -1,15 +1,14 @@
--- How many steps the marginals take that a session prints.
+-- How many steps the marginals take that a session computes.
 use Rattle.std.specs.Prelude.{◌≡◌, ℕ, ◌+◌, ◌≤◌, List, [], ◌∷◌, ◌++◌, sum_by, drop, Option}
 use Rattle.cg_meaning.specs.Tree.{root_of}
-use Rattle.cg_meaning.specs.Curve.{Curve}
 use Rattle.cg_meaning.specs.Scene.{Grid}
 use Rattle.cg_part.specs.Elements.{element_of}
 use Rattle.cg_recipe.specs.Ticks.{part_ticks}
 use Rattle.cg_sharing.specs.Command as command
 use Rattle.cg_sharing.specs.Command.{Command, Line}
 use Rattle.cg_sharing.specs.Versions.{State}
-use Rattle.cg_sharing.specs.Pieces.{Print, Piece, prints_of}
-use Rattle.cg_sharing.specs.Course.{Place, print_piece}
+use Rattle.cg_sharing.specs.Pieces.{Print, Piece, Marginal, Ranges, prints_in, prints_of}
+use Rattle.cg_sharing.specs.Course.{Calibration, Place, print_piece}
 use Rattle.cg_book.specs.Plain.{Seen, state_of}
 use Rattle.cg_session.specs.declared.session.Session.{Session}
 use Rattle.cg_session.specs.declared.session.Progress.{Progress}
@@ -23,26 +22,33 @@ print_ticks print = part_ticks print.scene.grid.cells print.event (element_of 0 
 abbrev pub ticks_in : List Print → ℕ
 ticks_in prints = sum_by print_ticks prints
 
--- the marginal that a command prints
-abbrev pub prints_at : Curve → State → ℕ → Command → Option ℕ → Option Grid → List Print
-prints_at curve state number (command.Print name) version grid = prints_of (print_piece curve state number name version grid ∷ [])
-prints_at curve state number other version grid = []
+-- the marginal that a command asks for
+abbrev pub prints_at : Calibration → State → ℕ → Command → Option ℕ → Option Grid → List Print
+prints_at calibration state number (command.Print name) version grid =
+    prints_in (print_piece Marginal calibration state number name version grid)
+prints_at calibration state number (command.Ranges name) version grid =
+    prints_in (print_piece Ranges calibration state number name version grid)
+prints_at calibration state number other version grid = []
 
 -- that of the next command, these lines being left
-abbrev pub prints_next : Curve → State → List Line → Option ℕ → Option Grid → List Print
-prints_next curve state [] version grid = []
-prints_next curve state (line ∷ lines) version grid = prints_at curve state line.number line.command version grid
+abbrev pub prints_next : Calibration → State → List Line → Option ℕ → Option Grid → List Print
+prints_next calibration state [] version grid = []
+prints_next calibration state (line ∷ lines) version grid =
+    prints_at calibration state line.number line.command version grid
 
 -- the marginal that want of memory may have cut short
-abbrev pub cut_short : Progress → Curve → Seen → Session → Place → List Print
-cut_short Stopped curve seen session place =
-    prints_next curve (state_of seen) (drop session.done session.script) place.version place.grid
-cut_short other curve seen session place = []
+abbrev pub cut_short : Progress → Calibration → Seen → Session → Place → List Print
+cut_short Stopped calibration seen session place =
+    prints_next calibration (state_of seen) (drop session.done session.script) place.version place.grid
+cut_short other calibration seen session place = []
 
--- From a place on, the counter rose by at most the steps of the marginals that were printed, and of one that was cut short.
-pub record Counts (curve : Curve) (seen : Seen) (progress : Progress) (old new : ℕ) (before : Place) (after : Session) : Type 0 where
+-- From a place on, the counter rose by at most the steps of the marginals that were printed, and of one that was cut
+-- short.
+pub record Counts
+    (calibration : Calibration) (seen : Seen) (progress : Progress) (old new : ℕ) (before : Place) (after : Session)
+    : Type 0 where
   pub place : Place
-  pub stands : StandsAt curve seen after place
+  pub stands : StandsAt calibration seen after place
   pub more : List Piece
   pub written : place.written ≡ before.written ++ more
-  pub ticks : new ≤ old + ticks_in (prints_of more ++ cut_short progress curve seen after place)
+  pub ticks : new ≤ old + ticks_in (prints_of more ++ cut_short progress calibration seen after place)

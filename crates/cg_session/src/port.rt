@@ -28,7 +28,8 @@ pub trait Port {
         ensures seat { seat self.new ≡ seat self.old }
         ensures alone { alone self.old → alone self.new }
         ensures legal { IsLegal (seen self.new).start (seen self.new).journal }
-        ensures grows { Grows (seat self.old) (alone self.old) (asked event) (answered result) (seen self.old) (seen self.new) }
+        ensures grows { Grows (seat self.old) (alone self.old) (asked event) (answered result)
+            (seen self.old) (seen self.new) }
         ensures carries { Carries (seen self.new) result };
 }
 

@@ -1,7 +1,7 @@
 ghost use Rattle.std.specs.Prelude.{◌≡◌, ◌<◌, ◌≤◌, ◌+◌, length, slice_get, Some, true, false, vec_len, vec_capacity, IfOk, OnOk, OnErr, MatchOption};
 ghost use Rattle.cg_sharing.specs.Command as spec;
-ghost use Rattle.cg_meaning.specs.Curve.{Curve};
-ghost use Rattle.cg_sharing.specs.Course.{Place, answered, transcript_of, AreFit};
+ghost use Rattle.cg_sharing.specs.Course.{Calibration, Place, answered, AreFit};
+ghost use Rattle.cg_report.specs.Transcript.{text_of, transcript_of};
 ghost use Rattle.cg_recipe.specs.Recipe.{recipe};
 ghost use Rattle.cg_book.specs.Plain as book;
 ghost use Rattle.cg_book.specs.Plain.{Seen, state_of, Carries};
@@ -48,7 +48,8 @@ pub struct Session {
 }
 
 impl Session {
-    ghost use Rattle.cg_session.specs.Standing.{first_curve, Shows, HasText, IsSpare};
+    ghost use Rattle.cg_session.specs.Calibration.{calibration_of};
+    ghost use Rattle.cg_session.specs.Standing.{Shows, HasText, IsSpare};
     ghost use Rattle.cg_session.specs.Steps.{Counts};
     ghost use Rattle.cg_session.specs.Transcript.{HasRoom};
     ghost use Rattle.cg_session.specs.Session.{seat_of, script_of, left_of, is_stopped, IsIn, StandsAt, IsFresh, IsAt, IsSame, IsPrepared, Came};
@@ -56,7 +57,8 @@ impl Session {
     /// A session before its first command.
     pub fn new(alloc: Global, number: u32, script: Script) -> Result<Session, NoMemory>
         requires { AreFit script }
-        ensures at { IfOk result (λ session. (curve : Curve) (seen : Seen) → IsFresh number seen → IsAt curve seen session) }
+        ensures at { IfOk result (λ session. (calibration : Calibration) (seen : Seen) → IsFresh number seen
+            → IsAt calibration seen session) }
         ensures same { IfOk result (λ session. (seat_of session ≡ number) × (script_of session ≡ script)) }
         ensures going { IfOk result (λ session. is_stopped session ≡ false) }
     {
@@ -85,14 +87,20 @@ impl Session {
         requires ready { AreFit self.old.script }
         requires within { self.old.done ≤ length self.old.script }
         ensures same { IsSame self.old self.new }
-        ensures at { (seen : Seen) → self.old.stopped ≡ false → IsAt (first_curve curves.now) seen self.old → IsAt (first_curve curves.now) seen self.new }
-        ensures ticks { OnOk result ((seen : Seen) (place : Place) → self.old.stopped ≡ false → IsAt (first_curve curves.now) seen self.old
-            → StandsAt (first_curve curves.now) seen self.old place → Counts (first_curve curves.now) seen Progress.Ended steps.old steps.new place self.new) }
-        ensures cut { OnErr result ((seen : Seen) (place : Place) → self.old.stopped ≡ false → IsAt (first_curve curves.now) seen self.old
-            → StandsAt (first_curve curves.now) seen self.old place → Counts (first_curve curves.now) seen Progress.Stopped steps.old steps.new place self.new) }
+        ensures at { (seen : Seen) → self.old.stopped ≡ false → IsAt (calibration_of curves.now) seen self.old
+            → IsAt (calibration_of curves.now) seen self.new }
+        ensures ticks { OnOk result ((seen : Seen) (place : Place) → self.old.stopped ≡ false
+            → IsAt (calibration_of curves.now) seen self.old
+            → StandsAt (calibration_of curves.now) seen self.old place
+            → Counts (calibration_of curves.now) seen Progress.Ended steps.old steps.new place self.new) }
+        ensures cut { OnErr result ((seen : Seen) (place : Place) → self.old.stopped ≡ false
+            → IsAt (calibration_of curves.now) seen self.old
+            → StandsAt (calibration_of curves.now) seen self.old place
+            → Counts (calibration_of curves.now) seen Progress.Stopped steps.old steps.new place self.new) }
         ensures forward { self.old.done ≤ self.new.done }
         ensures unfinished { OnErr result (self.new.done < length self.new.script) }
-        ensures next { IfOk result (λ asked. MatchOption asked (self.new.done ≡ length self.new.script) (λ next. IsPrepared next self.new)) }
+        ensures next { IfOk result (λ asked. MatchOption asked
+            (self.new.done ≡ length self.new.script) (λ next. IsPrepared next self.new)) }
     {
         while self.done < self.script.len() {
             let (line, command) = self.script.get(self.done);
@@ -114,11 +122,13 @@ impl Session {
         requires room { HasRoom self.old.standing.transcript 64 }
         requires base { vec_len self.old.standing.bases < vec_capacity self.old.standing.bases }
         ensures same { (self.new.number ≡ self.old.number) × (self.new.script ≡ self.old.script) }
-        ensures text { (seen : Seen) → HasText (state_of seen) self.old.standing.version → Carries seen reply → HasText (state_of seen) self.new.standing.version }
+        ensures text { (seen : Seen) → HasText (state_of seen) self.old.standing.version → Carries seen reply
+            → HasText (state_of seen) self.new.standing.version }
         ensures came { MatchOption (book.answered reply)
             ((result ≡ Progress.Stopped) × (self.new.stopped ≡ true) × (self.new.done ≡ self.old.done)
             × ((place : Place) → Shows self.old.standing place → Shows self.new.standing place))
-            (λ a. (result ≡ Progress.Moved) × (self.new.stopped ≡ self.old.stopped) × (self.new.done ≡ self.old.done + 1)
+            (λ a. (result ≡ Progress.Moved) × (self.new.stopped ≡ self.old.stopped)
+            × (self.new.done ≡ self.old.done + 1)
             × ((line : spec.Line) → slice_get self.old.script self.old.done ≡ Some line → IsSpare line.command spare
             → (place : Place) → Shows self.old.standing place → Shows self.new.standing (answered line a place))) }
     {
@@ -135,7 +145,8 @@ impl Session {
     /// Goes on until one act is made, the script is done or want of memory has stopped the session. `Ended` and
     /// `Stopped` make no act, and repeat.
     ///
-    /// The first of the curves serves all radiocarbon dates. Each product of two enclosures in a print's tables is a step.
+    /// A model's dates are read off the curve that it names, or the first where it names none. Each product of two
+    /// enclosures in a marginal's tables is a step.
     pub fn advance<Q: Port, L: Ledger>(
         &mut self,
         alloc: Global,
@@ -144,16 +155,17 @@ impl Session {
         steps: &mut Steps<L>,
     ) -> Progress
         requires seat { Q.seat port.old ≡ seat_of self.old }
-        requires at { IsAt (first_curve curves.now) (Q.seen port.old) self.old }
+        requires at { IsAt (calibration_of curves.now) (Q.seen port.old) self.old }
         ensures same { (seat_of self.new ≡ seat_of self.old) × (script_of self.new ≡ script_of self.old) }
         ensures lent { Q.lent port.new ≡ Q.lent port.old }
         ensures seat { Q.seat port.new ≡ Q.seat port.old }
         ensures alone { Q.alone port.old → Q.alone port.new }
         ensures start { (Q.seen port.new).start ≡ (Q.seen port.old).start }
-        ensures at { IsAt (first_curve curves.now) (Q.seen port.new) self.new }
-        ensures came { Came (first_curve curves.now) result (Q.alone port.old) (Q.seen port.old) (Q.seen port.new) self.old self.new }
-        ensures ticks { (place : Place) → StandsAt (first_curve curves.now) (Q.seen port.old) self.old place
-            → Counts (first_curve curves.now) (Q.seen port.new) result steps.old steps.new place self.new }
+        ensures at { IsAt (calibration_of curves.now) (Q.seen port.new) self.new }
+        ensures came { Came (calibration_of curves.now) result (Q.alone port.old) (Q.seen port.old) (Q.seen port.new)
+            self.old self.new }
+        ensures ticks { (place : Place) → StandsAt (calibration_of curves.now) (Q.seen port.old) self.old place
+            → Counts (calibration_of curves.now) (Q.seen port.new) result steps.old steps.new place self.new }
         ensures idle { is_stopped self.old ≡ true → steps.new ≡ steps.old }
         ensures repeats { is_stopped self.old ≡ true → (result ≡ Progress.Stopped) × (self.new ≡ self.old) }
     {
@@ -171,6 +183,13 @@ impl Session {
                 Progress::Stopped
             }
         }
+    }
+
+    /// What has been written so far, without a last line.
+    pub fn transcript(&self) -> &[u8]
+        ensures { (place : Place) → IsIn self.now place → result.now ≡ text_of recipe place.written }
+    {
+        &self.standing.transcript.bytes
     }
 
     /// The transcript, with its last line. It is whole after `Ended` and `Stopped`. Takes no memory.

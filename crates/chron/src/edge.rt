@@ -2,11 +2,11 @@
 
 ghost use Rattle.std.specs.Prelude.{◌≡◌, drop};
 ghost use Rattle.std.specs.Process.{exit_status};
-ghost use Rattle.cg_run.specs.Status.{code_of};
+ghost use Rattle.cg_report.specs.Status.{code_of};
 ghost use Rattle.chron.specs.Report.{IsReported};
 
 use cg_io::{Sink, Written, write_whole};
-use cg_run::{Status, status_line};
+use cg_report::{Status, status_line};
 use std::alloc::Global;
 use std::process::ExitCode;
 
@@ -31,8 +31,9 @@ pub fn exit_of(status: &Status) -> ExitCode
 pub fn report<K: Sink>(alloc: Global, out: &mut K, status: &Status) -> Written
     ensures { IsReported status.now (K.taken out.old) (K.taken out.new) result.taken result.failed }
 {
-    match status_line(alloc, status) {
-        Ok(line) => write_whole(out, &line),
+    let mut line = Vec::new(alloc);
+    match status_line(alloc, status, &mut line) {
+        Ok(()) => write_whole(out, &line),
         Err(_) => write_whole(out, b"out of memory\n"),
     }
 }

@@ -1,5 +1,5 @@
-//! `chron` reads radiocarbon chronologies and prints each event's posterior per calendar year, as intervals in parts per
-//! million that are proved to hold.
+//! `chron` reads radiocarbon chronologies and prints each event's posterior per calendar year, as intervals in parts
+//! per million that are proved to hold.
 #![tactic(auto)]
 
 mod edge;
@@ -8,7 +8,8 @@ mod tests;
 
 use crate::edge::{behind_the_name, exit_of, report};
 use cg_io::{FileShelf, StreamSink};
-use cg_run::{Status, run_alone};
+use cg_report::Status;
+use cg_run::run_alone;
 use std::env;
 use std::io::{self, ErrorKind};
 use std::process::ExitCode;

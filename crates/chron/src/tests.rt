@@ -1,6 +1,6 @@
 use crate::edge::{behind_the_name, report};
 use cg_io::MemSink;
-use cg_run::Status;
+use cg_report::Status;
 use std::test::Fail;
 
 #[test]

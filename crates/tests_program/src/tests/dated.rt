@@ -1,6 +1,10 @@
-use super::{WORDS, open_sink, run_words};
-use cg_run::Status;
+use super::{WORDS, outcome_of};
 use std::test::Fail;
+
+/// A curve that serves no date.
+const OTHER: &str = "2010,1990,5\n1990,2010,5\n";
+
+const PRINT: &str = "open main\ngrid 2001 2000\nprint \"R\"\n";
 
 /// Words with a first curve and a second one, which serves no date.
 const WITH_CURVES: [&str; 7] = [
@@ -90,31 +94,80 @@ static DATED: [(&str, &str, &str, &str); 10] = [
 #[test]
 fn dated_events(rt: HostRuntime) -> Result<(), Fail> {
     for (curve, model, script, want) in &DATED {
-        let mut sink = open_sink(&rt)?;
-        let files = [
-            ("c", *curve),
-            ("d", "2010,1990,5\n1990,2010,5\n"),
-            ("m", *model),
-            ("s", *script),
+        let files = [("c", *curve), ("d", OTHER), ("m", *model), ("s", *script)];
+        let outcome = outcome_of(&rt, WITH_CURVES.as_slice(), files.as_slice())?;
+        assert_eq!(rt; outcome.told.as_str(), "", "{model}");
+        assert_eq!(rt; outcome.output.as_slice(), want.as_bytes(), "{model}");
+    }
+    Ok(())
+}
+
+/// The curve files of the cases below.
+const CURVES: [(&str, &str); 2] = [
+    ("c", "2002,2000,20\n2000,2000,20\n"),
+    ("d", "2001,2000,0\n2000,2000,40\n"),
+];
+
+/// Curves by their names, a model, and the whole output: which curve serves the model.
+static SERVED: [(&str, &str, &str); 5] = [
+    // The one that the model names, and not the first.
+    (
+        "C.14c=c,other.14c=d",
+        "Curve(\"other\");R_Date(\"R\",2000,30);",
+        "session 1\nat v0\ngrid 2001 2000\nmarginal \"R\" v0\n2001 52 BC 624999 625001\n2000 51 BC 374999 375001\nend 1\n",
+    ),
+    // In capitals or not; the last text of a Curve counts.
+    (
+        "C.14c=c,D.14C=d",
+        "Plot(){Curve(\"C.14c\",\"d\");R_Date(\"R\",2000,30);};",
+        "session 1\nat v0\ngrid 2001 2000\nmarginal \"R\" v0\n2001 52 BC 624999 625001\n2000 51 BC 374999 375001\nend 1\n",
+    ),
+    // By an option.
+    (
+        "C.14c=c,d.14c=d",
+        "Options(){Curve=\"D.14c\";};R_Date(\"R\",2000,30);",
+        "session 1\nat v0\ngrid 2001 2000\nmarginal \"R\" v0\n2001 52 BC 624999 625001\n2000 51 BC 374999 375001\nend 1\n",
+    ),
+    // The first, by its name and without one.
+    (
+        "C.14c=c,d.14c=d",
+        "Curve(\"c\");R_Date(\"R\",2000,30);",
+        "session 1\nat v0\ngrid 2001 2000\nmarginal \"R\" v0\n2001 52 BC 499999 500001\n2000 51 BC 499999 500001\nend 1\n",
+    ),
+    (
+        "C.14c=c,d.14c=d",
+        "R_Date(\"R\",2000,30);",
+        "session 1\nat v0\ngrid 2001 2000\nmarginal \"R\" v0\n2001 52 BC 499999 500001\n2000 51 BC 499999 500001\nend 1\n",
+    ),
+];
+
+#[test]
+fn curves_of_models(rt: HostRuntime) -> Result<(), Fail> {
+    for (curves, model, want) in &SERVED {
+        let [first, second] = CURVES;
+        let files = [first, second, ("m", *model), ("s", PRINT)];
+        let words = [
+            "alone",
+            "--curves",
+            *curves,
+            "--models",
+            "main=m",
+            "--sessions",
+            "s",
         ];
-        let ended = run_words(&rt, WITH_CURVES.as_slice(), files.as_slice(), &mut sink)?;
-        assert_eq!(rt; ended.status, Status::Done, "{model}");
-        assert_eq!(rt; sink.bytes(), want.as_bytes(), "{model}");
+        let outcome = outcome_of(&rt, words.as_slice(), files.as_slice())?;
+        assert_eq!(rt; outcome.told.as_str(), "", "{model}");
+        assert_eq!(rt; outcome.output.as_slice(), want.as_bytes(), "{model}");
     }
     Ok(())
 }
 
 #[test]
 fn no_curve(rt: HostRuntime) -> Result<(), Fail> {
-    let mut sink = open_sink(&rt)?;
-    let files = [
-        ("m", "R_Date(\"R\",2000,30);"),
-        ("s", "open main\ngrid 2001 2000\nprint \"R\"\n"),
-    ];
-    let ended = run_words(&rt, WORDS.as_slice(), files.as_slice(), &mut sink)?;
-    assert_eq!(rt; ended.status, Status::Done);
+    let files = [("m", "R_Date(\"R\",2000,30);"), ("s", PRINT)];
+    let outcome = outcome_of(&rt, WORDS.as_slice(), files.as_slice())?;
     assert_eq!(rt;
-        sink.bytes(),
+        outcome.output.as_slice(),
         b"session 1\nat v0\ngrid 2001 2000\nrefused 3 no curve\nend 1\n".as_slice()
     );
     Ok(())

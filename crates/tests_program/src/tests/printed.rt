@@ -1,5 +1,4 @@
-use super::{TWO_EVENTS, WORDS, open_sink, run_words};
-use cg_run::Status;
+use super::{TWO_EVENTS, WORDS, outcome_of};
 use std::test::Fail;
 
 const MOVES: &str =
@@ -135,12 +134,10 @@ static TRANSCRIPTS: [(&str, &str, &str); 20] = [
 #[test]
 fn transcripts(rt: HostRuntime) -> Result<(), Fail> {
     for (model, script, want) in &TRANSCRIPTS {
-        let mut sink = open_sink(&rt)?;
         let files = [("m", *model), ("s", *script)];
-        let ended = run_words(&rt, WORDS.as_slice(), files.as_slice(), &mut sink)?;
-        assert_eq!(rt; ended.status, Status::Done, "{model}");
-        assert_eq!(rt; sink.bytes(), want.as_bytes(), "{model}");
-        assert_eq!(rt; ended.taken, want.len() as u64, "{model}");
+        let outcome = outcome_of(&rt, WORDS.as_slice(), files.as_slice())?;
+        assert_eq!(rt; outcome.told.as_str(), "", "{model}");
+        assert_eq!(rt; outcome.output.as_slice(), want.as_bytes(), "{model}");
     }
     Ok(())
 }

@@ -1,192 +1,6 @@
-use super::{TWO_EVENTS, WORDS, open_sink, run_words};
-use cg_curve::CurveFault;
-use cg_files::{FileCause, FileKind, FileRef};
-use cg_io::MemShelf;
-use cg_run::{Status, run_alone};
-use std::alloc::Global;
-use std::fmt::Write;
+//! Commands that are refused.
+use super::{Outcome, TWO_EVENTS, WORDS, outcome_of};
 use std::test::Fail;
-
-const OPEN: &str = "open main\n";
-
-fn refused(kind: FileKind, number: u32, line: u32, cause: FileCause) -> Status {
-    Status::Refused(FileRef { kind, number }, line, cause)
-}
-
-/// Words that ask for nothing, and words that ask for something.
-static WORD_LISTS: [(&[&str], Status); 8] = [
-    (
-        &["alone", "--sessions", "s", "--models", "main=m"],
-        Status::Done,
-    ),
-    (
-        &[
-            "alone",
-            "--turns",
-            "2,1,0002",
-            "--models",
-            "a=m,b=m,A=m",
-            "--sessions",
-            "s,s",
-        ],
-        Status::Done,
-    ),
-    (&[], Status::Usage),
-    (&["alone", "--models", "main=m"], Status::Usage),
-    (
-        &["run", "--models", "main=m", "--sessions", "s"],
-        Status::Usage,
-    ),
-    (
-        &["alone", "--models", "a=m,a=m", "--sessions", "s"],
-        Status::Usage,
-    ),
-    (
-        &[
-            "alone",
-            "--curves",
-            "a=c,A=c",
-            "--models",
-            "main=m",
-            "--sessions",
-            "s",
-        ],
-        Status::Usage,
-    ),
-    (
-        &[
-            "alone",
-            "--models",
-            "main=m",
-            "--sessions",
-            "s",
-            "--turns",
-            "2",
-        ],
-        Status::Usage,
-    ),
-];
-
-#[test]
-fn words(rt: HostRuntime) -> Result<(), Fail> {
-    for (texts, want) in &WORD_LISTS {
-        let files = [("m", TWO_EVENTS), ("s", OPEN)];
-        let mut sink = open_sink(&rt)?;
-        let ended = run_words(&rt, texts, files.as_slice(), &mut sink)?;
-        assert_eq!(rt; ended.status, *want, "{texts:?}");
-    }
-    Ok(())
-}
-
-/// Curve files, and the line and the fault of each, if it has one.
-static CURVES: [(&str, Option<(u32, CurveFault)>); 6] = [
-    ("2002,2000,20\n2000,2000,20\n", None),
-    (
-        "# years\n2002,2000,20\n2000,x,20\n",
-        Some((3, CurveFault::BadRow(3))),
-    ),
-    (
-        "2002,70001,20\n2000,2000,20\n",
-        Some((1, CurveFault::OutOfRange(1))),
-    ),
-    (
-        "2000,2000,20\n2000,2000,20\n",
-        Some((2, CurveFault::Order(2))),
-    ),
-    (
-        "3001,2000,20\n2000,2000,20\n",
-        Some((2, CurveFault::Gap(2))),
-    ),
-    ("2000,2000,20\n", Some((0, CurveFault::TooFew))),
-];
-
-#[test]
-fn curve_files(rt: HostRuntime) -> Result<(), Fail> {
-    let words = [
-        "alone",
-        "--curves",
-        "a=b,c=c",
-        "--models",
-        "main=m",
-        "--sessions",
-        "s",
-    ];
-    for (text, fault) in &CURVES {
-        let want = match fault {
-            Some((line, fault)) => refused(FileKind::Curve, 2, *line, FileCause::Curve(*fault)),
-            None => Status::Done,
-        };
-        let files = [
-            ("b", "2002,2000,20\n2000,2000,20\n"),
-            ("c", *text),
-            ("m", TWO_EVENTS),
-            ("s", OPEN),
-        ];
-        let mut sink = open_sink(&rt)?;
-        let ended = run_words(&rt, words.as_slice(), files.as_slice(), &mut sink)?;
-        assert_eq!(rt; ended.status, want, "{text}");
-        assert_eq!(rt; sink.bytes().is_empty(), fault.is_some(), "{text}");
-    }
-    Ok(())
-}
-
-/// A model and a script, and the kind of the file that isn't in its Form.
-static FORMS: [(&str, &str, Option<FileKind>); 7] = [
-    (
-        "Sequence(){Date(\"A\"};",
-        "nothing\n",
-        Some(FileKind::Model),
-    ),
-    ("Sequence(){C_Date(\"A\",0);};", OPEN, Some(FileKind::Model)),
-    (
-        "Sequence(){C_Date(\"A\",2951);};",
-        OPEN,
-        Some(FileKind::Model),
-    ),
-    ("Sequence(){C_Date(\"A\",2950);};", OPEN, None),
-    (TWO_EVENTS, "", None),
-    (TWO_EVENTS, "open main\nnothing\n", Some(FileKind::Session)),
-    (TWO_EVENTS, "grid 60001 60000\n", Some(FileKind::Session)),
-];
-
-#[test]
-fn forms(rt: HostRuntime) -> Result<(), Fail> {
-    for (model, script, kind) in &FORMS {
-        let want = match kind {
-            Some(kind) => refused(*kind, 1, 0, FileCause::Form),
-            None => Status::Done,
-        };
-        let files = [("m", *model), ("s", *script)];
-        let mut sink = open_sink(&rt)?;
-        let ended = run_words(&rt, WORDS.as_slice(), files.as_slice(), &mut sink)?;
-        assert_eq!(rt; ended.status, want, "{model} {script}");
-    }
-    Ok(())
-}
-
-/// A file at the limit is read and says nothing, and one that is a byte longer isn't read.
-#[test]
-fn long_files(rt: HostRuntime) -> Result<(), Fail> {
-    let cases = [
-        (4_194_304, FileCause::Form),
-        (4_194_305, FileCause::TooLong),
-    ];
-    for (length, cause) in cases {
-        let long = vec![in rt.alloc(); b' '; length]?;
-        let mut shelf = MemShelf::new(rt.alloc());
-        shelf.put("m", TWO_EVENTS.as_bytes())?;
-        shelf.put("s", &long)?;
-        let mut sink = open_sink(&rt)?;
-        let words = super::words_of(&rt, WORDS.as_slice())?;
-        let ended = run_alone(rt.alloc(), &words, &mut shelf, &mut sink);
-        assert_eq!(rt;
-            ended.status,
-            refused(FileKind::Session, 1, 0, cause),
-            "{length} bytes"
-        );
-    }
-    Ok(())
-}
 
 /// A model, a script, and the lines between the first and the last.
 static COMMANDS: [(&str, &str, &str); 11] = [
@@ -257,67 +71,96 @@ static COMMANDS: [(&str, &str, &str); 11] = [
     ),
 ];
 
+// what a session of this script writes, between its first line and its last
+fn is_between(rt: &HostRuntime, outcome: &Outcome, lines: &str) -> Result<bool, Fail> {
+    let want = format!(in rt.alloc(); "session 1\n{lines}end 1\n")?;
+    Ok(outcome.told.is_empty() && outcome.output.as_slice() == want.as_bytes())
+}
+
 #[test]
 fn commands(rt: HostRuntime) -> Result<(), Fail> {
     for (model, script, lines) in &COMMANDS {
         let files = [("m", *model), ("s", *script)];
-        let mut sink = open_sink(&rt)?;
-        let ended = run_words(&rt, WORDS.as_slice(), files.as_slice(), &mut sink)?;
-        let want = format!(in rt.alloc(); "session 1\n{lines}end 1\n")?;
-        assert_eq!(rt; ended.status, Status::Done, "{script}");
-        assert_eq!(rt; sink.bytes(), want.as_bytes(), "{script}");
+        let outcome = outcome_of(&rt, WORDS.as_slice(), files.as_slice())?;
+        assert!(rt; is_between(&rt, &outcome, lines)?, "{script}");
     }
     Ok(())
 }
 
-/// Curves, a model, the older year of a grid, and the cause: the first event and its oldest year at fault, after the name.
-static UNWEIGHED: [(&str, &str, u32, &str); 5] = [
-    ("", "R_Date(\"R\",2000,1);", 2001, "no curve"),
-    ("c=c", "R_Date(\"R\",17000,1);", 2003, "uncovered 2003"),
-    ("c=c", "R_Date(\"R\",18385,1);", 2001, "far date 2001"),
+/// Whether a curve is given, a model, the older year of a grid, and the cause: the first event and its oldest year at
+/// fault, after the name.
+static UNWEIGHED: [(bool, &str, u32, &str); 5] = [
+    (false, "R_Date(\"R\",2000,1);", 2001, "no curve"),
+    (true, "R_Date(\"R\",17000,1);", 2003, "uncovered 2003"),
+    (true, "R_Date(\"R\",18385,1);", 2001, "far date 2001"),
     (
-        "",
+        false,
         "Phase(){C_Date(\"R\",-18051,1);Sequence(){Boundary(\"b\");R_Date(\"Q\",2000,1);};};",
         2001,
         "far date 2001",
     ),
     (
-        "",
+        false,
         "Phase(){Sequence(){Boundary(\"b\");R_Date(\"Q\",2000,1);};C_Date(\"R\",-18051,1);};",
         2001,
         "no curve",
     ),
 ];
 
+const WITH_CURVE: [&str; 7] = [
+    "alone",
+    "--models",
+    "main=m",
+    "--sessions",
+    "s",
+    "--curves",
+    "c=c",
+];
+
+// what comes of a model and a script, with the curve or without it
+fn outcome_with<'a>(
+    rt: &HostRuntime,
+    is_given: bool,
+    model: &'a str,
+    script: &'a str,
+) -> Result<Outcome, Fail> {
+    let files = [
+        ("c", "2002,2000,20\n2000,2000,20\n"),
+        ("m", model),
+        ("s", script),
+    ];
+    if is_given {
+        outcome_of(rt, WITH_CURVE.as_slice(), files.as_slice())
+    } else {
+        outcome_of(rt, WORDS.as_slice(), files.as_slice())
+    }
+}
+
+// whether the events can't be weighed by this cause, on a grid from this year on; a name of no event is told before
+fn is_unweighed(
+    rt: &HostRuntime,
+    is_given: bool,
+    model: &str,
+    older: u32,
+    cause: &str,
+) -> Result<bool, Fail> {
+    let script = format!(in rt.alloc();
+        "open main\ngrid {older} 2000\nprint \"Z\"\nprint \"R\"\n"
+    )?;
+    let lines = format!(in rt.alloc();
+        "at v0\ngrid {older} 2000\nrefused 3 no name\nrefused 4 {cause}\n"
+    )?;
+    let outcome = outcome_with(rt, is_given, model, script.as_str())?;
+    is_between(rt, &outcome, lines.as_str())
+}
+
 #[test]
 fn unweighed_events(rt: HostRuntime) -> Result<(), Fail> {
-    for (curves, model, older, cause) in &UNWEIGHED {
-        let script = format!(in rt.alloc();
-            "open main\ngrid {older} 2000\nprint \"Z\"\nprint \"R\"\n"
-        )?;
-        let files = [
-            ("c", "2002,2000,20\n2000,2000,20\n"),
-            ("m", *model),
-            ("s", script.as_str()),
-        ];
-        let all = [
-            "alone",
-            "--models",
-            "main=m",
-            "--sessions",
-            "s",
-            "--curves",
-            *curves,
-        ];
-        let count = if curves.is_empty() { 5 } else { 7 };
-        let words = all.get(..count).ok_or("too few words")?;
-        let mut sink = open_sink(&rt)?;
-        let ended = run_words(&rt, words, files.as_slice(), &mut sink)?;
-        let want = format!(in rt.alloc();
-            "session 1\nat v0\ngrid {older} 2000\nrefused 3 no name\nrefused 4 {cause}\nend 1\n"
-        )?;
-        assert_eq!(rt; ended.status, Status::Done, "{model}");
-        assert_eq!(rt; sink.bytes(), want.as_bytes(), "{model}");
+    for (is_given, model, older, cause) in &UNWEIGHED {
+        assert!(rt;
+            is_unweighed(&rt, *is_given, model, *older, cause)?,
+            "{model}"
+        );
     }
     Ok(())
 }
@@ -343,45 +186,10 @@ fn uncovered_years(rt: HostRuntime) -> Result<(), Fail> {
             "open main\ngrid 2003 2000\nprint \"R\"\ngrid 2001 2000\nprint \"R\"\n",
         ),
     ];
-    let mut sink = open_sink(&rt)?;
-    let ended = run_words(&rt, words.as_slice(), files.as_slice(), &mut sink)?;
-    assert_eq!(rt; ended.status, Status::Done);
+    let outcome = outcome_of(&rt, words.as_slice(), files.as_slice())?;
     assert_eq!(rt;
-        sink.bytes(),
+        outcome.output.as_slice(),
         b"session 1\nat v0\ngrid 2003 2000\nrefused 3 uncovered 2003\ngrid 2001 2000\nrefused 5 far date 2001\nend 1\n".as_slice()
-    );
-    Ok(())
-}
-
-/// So many dates in a Sequence, with the names A0, A1 and so on.
-fn dates(alloc: Global, count: usize) -> Result<String, Fail> {
-    let mut model = String::from_str(alloc, "Sequence(\"s\"){")?;
-    for member in 0..count {
-        write!(model, "Date(\"A{member}\");")?;
-    }
-    model.push_str("};")?;
-    Ok(model)
-}
-
-/// A hundred events, and one more; a model of a hundred and one isn't accepted.
-#[test]
-fn events(rt: HostRuntime) -> Result<(), Fail> {
-    let script = "open main\nadd \"s\" Date(\"B\");\n";
-    let full = dates(rt.alloc(), 100)?;
-    let files = [("m", full.as_str()), ("s", script)];
-    let mut sink = open_sink(&rt)?;
-    let ended = run_words(&rt, WORDS.as_slice(), files.as_slice(), &mut sink)?;
-    assert_eq!(rt; ended.status, Status::Done);
-    assert_eq!(rt;
-        sink.bytes(),
-        b"session 1\nat v0\nrefused 2 limit events\nend 1\n".as_slice()
-    );
-    let past = dates(rt.alloc(), 101)?;
-    let files = [("m", past.as_str()), ("s", script)];
-    let ended = run_words(&rt, WORDS.as_slice(), files.as_slice(), &mut sink)?;
-    assert_eq!(rt;
-        ended.status,
-        refused(FileKind::Model, 1, 0, FileCause::Form)
     );
     Ok(())
 }

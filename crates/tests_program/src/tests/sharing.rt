@@ -1,6 +1,4 @@
-use super::{TWO_EVENTS, open_sink, run_words};
-use cg_run::{Ended, Status};
-use std::alloc::Global;
+use super::{Outcome, TWO_EVENTS, outcome_of};
 use std::test::Fail;
 
 const FIRST: &str = "open main\nadd \"s\" Date(\"C\");\ncommit main\n";
@@ -63,35 +61,31 @@ static RUNS: [(&str, &str, &str, &[u32]); 7] = [
     ),
 ];
 
-fn seats_of(alloc: Global, ended: &Ended) -> Result<Vec<u32>, Fail> {
-    let mut seats = Vec::new(alloc);
-    for entry in ended.journal.entries() {
-        seats.push(entry.seat)?;
-    }
-    Ok(seats)
+// the words of these sessions, which take these turns, or none
+fn run_of(rt: &HostRuntime, sessions: &str, turns: &str) -> Result<Outcome, Fail> {
+    let files = [("m", TWO_EVENTS), ("e", ""), ("s", FIRST), ("t", SECOND)];
+    let all = [
+        "alone",
+        "--models",
+        "main=m",
+        "--sessions",
+        sessions,
+        "--turns",
+        turns,
+    ];
+    let count = if turns.is_empty() { 5 } else { 7 };
+    let words = all.get(..count).ok_or("too few words")?;
+    outcome_of(rt, words, files.as_slice())
 }
 
 /// Sessions that change one model in turns.
 #[test]
 fn turns(rt: HostRuntime) -> Result<(), Fail> {
-    let files = [("m", TWO_EVENTS), ("e", ""), ("s", FIRST), ("t", SECOND)];
     for (sessions, turns, want, seats) in &RUNS {
-        let all = [
-            "alone",
-            "--models",
-            "main=m",
-            "--sessions",
-            *sessions,
-            "--turns",
-            *turns,
-        ];
-        let count = if turns.is_empty() { 5 } else { 7 };
-        let words = all.get(..count).ok_or("too few words")?;
-        let mut sink = open_sink(&rt)?;
-        let ended = run_words(&rt, words, files.as_slice(), &mut sink)?;
-        assert_eq!(rt; ended.status, Status::Done, "{turns}");
-        assert_eq!(rt; sink.bytes(), want.as_bytes(), "{turns}");
-        assert_eq!(rt; seats_of(rt.alloc(), &ended)?.as_slice(), *seats, "{turns}");
+        let outcome = run_of(&rt, sessions, turns)?;
+        assert_eq!(rt; outcome.told.as_str(), "", "{turns}");
+        assert_eq!(rt; outcome.output.as_slice(), want.as_bytes(), "{turns}");
+        assert_eq!(rt; outcome.seats.as_slice(), *seats, "{turns}");
     }
     Ok(())
 }
@@ -117,11 +111,9 @@ fn two_models(rt: HostRuntime) -> Result<(), Fail> {
             "open side\nadd \"p\" Date(\"D\");\ncommit side\ncommit main\n",
         ),
     ];
-    let mut sink = open_sink(&rt)?;
-    let ended = run_words(&rt, words.as_slice(), files.as_slice(), &mut sink)?;
-    assert_eq!(rt; ended.status, Status::Done);
+    let outcome = outcome_of(&rt, words.as_slice(), files.as_slice())?;
     assert_eq!(rt;
-        sink.bytes(),
+        outcome.output.as_slice(),
         b"session 1\nat v0\nmade v3\ncommitted v3\nend 1\nsession 2\nat v1\nmade v2\ncommitted v2\nrefused 4 moved v3\nend 2\n".as_slice()
     );
     Ok(())

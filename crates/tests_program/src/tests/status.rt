@@ -1,49 +1,53 @@
+//! Lines of statuses and exit codes.
+use super::line_of;
 use cg_curve::CurveFault;
-use cg_files::{FileCause, FileKind, FileRef};
-use cg_run::{Status, status_line};
+use cg_grammar::{CqlCause, CqlLimit};
+use cg_report::{FileCause, FileKind, FileRef, Status};
+use cg_script::{ScriptCause, ScriptLimit};
 use std::test::Fail;
 
-fn refused(kind: FileKind, number: u32, line: u32, cause: FileCause) -> Status {
-    Status::Refused(FileRef { kind, number }, line, cause)
+fn refused(kind: FileKind, line: u32, cause: FileCause) -> Status {
+    Status::Refused(FileRef { kind, number: 8 }, line, cause)
+}
+
+/// The line and the exit code of a status.
+fn is_told(rt: &HostRuntime, status: &Status, line: &str, code: u8) -> Result<bool, Fail> {
+    Ok(line_of(rt.alloc(), status)?.as_str() == line && status.code() == code)
 }
 
 #[test]
-fn status_lines(rt: HostRuntime) -> Result<(), Fail> {
+fn statuses(rt: HostRuntime) -> Result<(), Fail> {
     let session = FileRef {
         kind: FileKind::Session,
         number: 8,
     };
-    let cases = [
-        (Status::Done, "", 0),
-        (Status::Usage, "usage\n", 2),
-        (Status::ReadFault(session), "read fault: session 8\n", 3),
-        (
-            refused(FileKind::Model, 1, 0, FileCause::TooLong),
-            "model 1 line 0: too long\n",
-            4,
-        ),
-        (
-            refused(FileKind::Session, 2, 0, FileCause::Form),
-            "session 2 line 0: form\n",
-            4,
-        ),
-        (
-            refused(
-                FileKind::Curve,
-                4,
-                12,
-                FileCause::Curve(CurveFault::BadRow(12)),
-            ),
-            "curve 4 line 12: bad row\n",
-            4,
-        ),
-        (Status::WriteFault, "write fault\n", 5),
-        (Status::NoMemory, "out of memory\n", 6),
-    ];
-    for (status, text, code) in cases {
-        let line = status_line(rt.alloc(), &status)?;
-        assert_eq!(rt; line.as_slice(), text.as_bytes(), "{status:?}");
-        assert_eq!(rt; status.code(), code, "{status:?}");
-    }
+    assert!(rt; is_told(&rt, &Status::Done, "", 0)?);
+    assert!(rt; is_told(&rt, &Status::Usage, "usage\n", 2)?);
+    assert!(rt;
+        is_told(
+            &rt,
+            &Status::ReadFault(session),
+            "read fault: session 8\n",
+            3
+        )?
+    );
+    assert!(rt; is_told(&rt, &Status::WriteFault, "write fault\n", 5)?);
+    assert!(rt; is_told(&rt, &Status::NoMemory, "out of memory\n", 6)?);
+    Ok(())
+}
+
+#[test]
+fn causes(rt: HostRuntime) -> Result<(), Fail> {
+    let long = refused(FileKind::Model, 0, FileCause::TooLong);
+    assert!(rt; is_told(&rt, &long, "model 8 line 0: too long\n", 4)?);
+    let row = FileCause::Curve(CurveFault::BadRow(12));
+    let row = refused(FileKind::Curve, 12, row);
+    assert!(rt; is_told(&rt, &row, "curve 8 line 12: bad row\n", 4)?);
+    let depth = FileCause::Cql(CqlCause::Limit(CqlLimit::Depth));
+    let depth = refused(FileKind::Model, 3, depth);
+    assert!(rt; is_told(&rt, &depth, "model 8 line 3: limit depth\n", 4)?);
+    let prints = FileCause::Script(ScriptCause::Limit(ScriptLimit::Prints));
+    let prints = refused(FileKind::Session, 201, prints);
+    assert!(rt; is_told(&rt, &prints, "session 8 line 201: limit prints\n", 4)?);
     Ok(())
 }

@@ -1,7 +1,7 @@
 use Rattle.std.proofs.Common.{◌≡◌, ◌++◌, [], false, map, List}
 use Rattle.std.specs.List.{list_any}
 use Rattle.cg_sharing.specs.Versions.{StartModel, start_of}
-use Rattle.cg_meaning.specs.Curve.{Curve}
+use Rattle.cg_sharing.specs.Course.{Calibration}
 use Rattle.cg_session.specs.Session.{script_of, is_stopped}
 use Rattle.cg_interleaving.specs.Taking.{AreAt}
 use Rattle.cg_interleaving.proofs.sessions.begin.Given as goal
@@ -11,6 +11,6 @@ abbrev pub invariant-loop-script : goal.invariant-loop-script
 invariant-loop-script l = record {
   whole : l.yielded ++ l.script-iterator.rest.items ≡ l.fn.scripts.items;
   read : map script_of l.list.items ≡ l.yielded;
-  at : (curve : Curve) (models : List StartModel) → AreAt curve record { start = start_of models; journal = [] } 1 l.list.items;
+  at : (calibration : Calibration) (models : List StartModel) → AreAt calibration record { start = start_of models; journal = [] } 1 l.list.items;
   going : list_any is_stopped l.list.items ≡ false;
 }

@@ -1,5 +1,5 @@
 use Rattle.std.proofs.Common.{◌∙◌, Bool, subst, arith}
-use Rattle.cg_session.specs.Standing.{first_curve}
+use Rattle.cg_session.specs.Calibration.{calibration_of}
 use Rattle.cg_interleaving.specs.Taking.{HasTurned}
 use Rattle.cg_interleaving.proofs.EndLemmas.{same_length}
 use Rattle.cg_interleaving.proofs.FinishLemmas.{one_more_often, finished}
@@ -9,15 +9,15 @@ pub loop-alloc-preserved : goal.loop-alloc-preserved
 loop-alloc-preserved g c =
     let was = c.loop-alloc.invariant in
     let step = c.advance.ensures in
-    let curve = first_curve c.args.curves.now in
+    let calibration = calibration_of c.args.curves.now in
     record {
       can = step.can;
       same = step.same ∙ was.same;
       start = step.start ∙ was.start;
       taken = λ world here.
           let has = was.taken world here in
-          let T : Bool → Type 0 = λ b. HasTurned curve c.args.place b has.now c.advance.new.self in
-          one_more_often curve c.args.place world _ _ has (subst T c.loop-alloc-test.true (step.taken has.now has.here));
+          let T : Bool → Type 0 = λ b. HasTurned calibration c.args.place b has.now c.advance.new.self in
+          one_more_often calibration c.args.place world _ _ has (subst T c.loop-alloc-test.true (step.taken has.now has.here));
       others = λ other ne over. step.others other ne (was.others other ne over);
     }
 
@@ -25,9 +25,9 @@ pub returns-clause-taken : goal.returns-clause-taken
 returns-clause-taken g c =
     let was = c.loop-alloc.invariant in
     let step = c.advance.ensures in
-    let curve = first_curve c.args.curves.now in
+    let calibration = calibration_of c.args.curves.now in
     let count = same_length c.advance.new.self.list.items c.args.self.now.list.items (step.same ∙ was.same) in
     λ world here.
     let has = was.taken world here in
-    let T : Bool → Type 0 = λ b. HasTurned curve c.args.place b has.now c.advance.new.self in
-    finished curve c.args.place world _ c.advance.new.self has (subst T c.loop-alloc-test.false (step.taken has.now has.here)) (omega (arith, count, c.requires.within)) (step.over c.loop-alloc-test.false)
+    let T : Bool → Type 0 = λ b. HasTurned calibration c.args.place b has.now c.advance.new.self in
+    finished calibration c.args.place world _ c.advance.new.self has (subst T c.loop-alloc-test.false (step.taken has.now has.here)) (omega (arith, count, c.requires.within)) (step.over c.loop-alloc-test.false)

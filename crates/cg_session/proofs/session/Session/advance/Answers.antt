@@ -3,7 +3,7 @@ use Rattle.std.proofs.lemmas.Option.{slice_get_within}
 use Rattle.cg_sharing.specs.Course.{stopped_at}
 use Rattle.cg_book.specs.Plain.{asked, answered}
 use Rattle.cg_session.specs.Port.{Grows}
-use Rattle.cg_session.specs.Standing.{first_curve}
+use Rattle.cg_session.specs.Calibration.{calibration_of}
 use Rattle.cg_session.specs.Session.{IsPrepared}
 use Rattle.cg_session.proofs.AdvanceLemmas.{may_at, stopped_on, stands_stopped, ended_at, settled_at}
 use Rattle.cg_session.proofs.StepLemmas.{counts_settled}
@@ -14,7 +14,7 @@ event-reply-requires-clause-may g c =
     let seen = g.Q.Port.seen c.args.port.now in
     let s = c.prepare.new.self in
     let next : IsPrepared c.in-Ok-Some.field-0-0 s = rw c.in-Ok-Some.field-0-is at c.in-Ok-Some.ensures.next in
-    may_at (first_curve c.args.curves.now) seen s next.line (asked c.in-Ok-Some.field-0-0.act) (c.prepare.ensures.same.stopped ∙ c.if-self.false) (c.prepare.ensures.at seen c.if-self.false c.requires.at) next.here next.act
+    may_at (calibration_of c.args.curves.now) seen s next.line (asked c.in-Ok-Some.field-0-0.act) (c.prepare.ensures.same.stopped ∙ c.if-self.false) (c.prepare.ensures.at seen c.if-self.false c.requires.at) next.here next.act
 
 pub settle-requires-clause-within : goal.settle-requires-clause-within
 settle-requires-clause-within g c =
@@ -31,7 +31,7 @@ returns-in-Ok-Some-clause-at g c =
     let act = asked c.in-Ok-Some.field-0-0.act in
     let G : ℕ → Type 0 = λ n. Grows n (g.Q.Port.alone c.args.port.now) act (answered c.event-reply.result) seen new in
     let grows = subst G (c.requires.seat ∙ sym same.number) c.event-reply.ensures.grows in
-    (settled_at (first_curve c.args.curves.now) seen new (g.Q.Port.alone c.args.port.now) c.args.self.now s c.settle.new.self next.line act c.in-Ok-Some.field-0-0.spare c.settle.result (answered c.event-reply.result) (same.stopped ∙ c.if-self.false)
+    (settled_at (calibration_of c.args.curves.now) seen new (g.Q.Port.alone c.args.port.now) c.args.self.now s c.settle.new.self next.line act c.in-Ok-Some.field-0-0.spare c.settle.result (answered c.event-reply.result) (same.stopped ∙ c.if-self.false)
     (c.prepare.ensures.at seen c.if-self.false c.requires.at) same.number same.script c.prepare.ensures.forward next.here next.act next.spare grows c.event-reply.ensures.legal c.settle.ensures.same.0 c.settle.ensures.same.1
     (λ text. c.settle.ensures.text new text c.event-reply.ensures.carries) c.settle.ensures.came).0
 
@@ -45,7 +45,7 @@ returns-in-Ok-Some-clause-came g c =
     let act = asked c.in-Ok-Some.field-0-0.act in
     let G : ℕ → Type 0 = λ n. Grows n (g.Q.Port.alone c.args.port.now) act (answered c.event-reply.result) seen new in
     let grows = subst G (c.requires.seat ∙ sym same.number) c.event-reply.ensures.grows in
-    (settled_at (first_curve c.args.curves.now) seen new (g.Q.Port.alone c.args.port.now) c.args.self.now s c.settle.new.self next.line act c.in-Ok-Some.field-0-0.spare c.settle.result (answered c.event-reply.result) (same.stopped ∙ c.if-self.false)
+    (settled_at (calibration_of c.args.curves.now) seen new (g.Q.Port.alone c.args.port.now) c.args.self.now s c.settle.new.self next.line act c.in-Ok-Some.field-0-0.spare c.settle.result (answered c.event-reply.result) (same.stopped ∙ c.if-self.false)
     (c.prepare.ensures.at seen c.if-self.false c.requires.at) same.number same.script c.prepare.ensures.forward next.here next.act next.spare grows c.event-reply.ensures.legal c.settle.ensures.same.0 c.settle.ensures.same.1
     (λ text. c.settle.ensures.text new text c.event-reply.ensures.carries) c.settle.ensures.came).1
 
@@ -54,11 +54,11 @@ returns-in-Ok-None-clause-came g c =
     let seen = g.Q.Port.seen c.args.port.now in
     let s = c.prepare.new.self in
     let all : s.done ≡ length s.script = rw c.in-Ok-None.field-0-is at c.in-Ok-None.ensures.next in
-    ended_at (first_curve c.args.curves.now) seen s (c.prepare.ensures.same.stopped ∙ c.if-self.false) (c.prepare.ensures.at seen c.if-self.false c.requires.at) all
+    ended_at (calibration_of c.args.curves.now) seen s (c.prepare.ensures.same.stopped ∙ c.if-self.false) (c.prepare.ensures.at seen c.if-self.false c.requires.at) all
 
 pub returns-in-Err-clause-at : goal.returns-in-Err-clause-at
 returns-in-Err-clause-at g c =
-    let curve = first_curve c.args.curves.now in
+    let calibration = calibration_of c.args.curves.now in
     let seen = g.Q.Port.seen c.args.port.now in
     let s = c.prepare.new.self in
     let run = c.prepare.ensures.same.stopped ∙ c.if-self.false in
@@ -70,19 +70,19 @@ returns-in-Err-clause-at g c =
       legal = at.legal;
       ready = at.ready;
       within = at.within;
-      stands = (stopped_at place, stopped_on curve seen seen s (record s { stopped = true }) [] place run c.in-Err.ensures.unfinished tt refl (sym (append-nil seen.journal)) refl refl refl refl at.stands.1.0.shows at.stands.1);
+      stands = (stopped_at place, stopped_on calibration seen seen s (record s { stopped = true }) [] place run c.in-Err.ensures.unfinished tt refl (sym (append-nil seen.journal)) refl refl refl refl at.stands.1.0.shows at.stands.1);
       text = at.text;
     }
 
 pub returns-in-Err-clause-came : goal.returns-in-Err-clause-came
 returns-in-Err-clause-came g c =
-    let curve = first_curve c.args.curves.now in
+    let calibration = calibration_of c.args.curves.now in
     let seen = g.Q.Port.seen c.args.port.now in
     let s = c.prepare.new.self in
     let run = c.prepare.ensures.same.stopped ∙ c.if-self.false in
     let at = c.prepare.ensures.at seen c.if-self.false c.requires.at in
     let place = at.stands.0 in
-    let stands = stopped_on curve seen seen s (record s { stopped = true }) [] place run c.in-Err.ensures.unfinished tt refl (sym (append-nil seen.journal)) refl refl refl refl at.stands.1.0.shows at.stands.1 in
+    let stands = stopped_on calibration seen seen s (record s { stopped = true }) [] place run c.in-Err.ensures.unfinished tt refl (sym (append-nil seen.journal)) refl refl refl refl at.stands.1.0.shows at.stands.1 in
     record {
       others = [];
       theirs = tt;
@@ -91,12 +91,12 @@ returns-in-Err-clause-came g c =
       journal = sym (append-nil seen.journal);
       place = stopped_at place;
       here = stands.0;
-      stopped = stands_stopped curve seen (record s { stopped = true }) (stopped_at place) refl stands;
+      stopped = stands_stopped calibration seen (record s { stopped = true }) (stopped_at place) refl stands;
     }
 
 pub returns-then-self-clause-came : goal.returns-then-self-clause-came
 returns-then-self-clause-came g c =
-    let curve = first_curve c.args.curves.now in
+    let calibration = calibration_of c.args.curves.now in
     let seen = g.Q.Port.seen c.args.port.now in
     let place = c.requires.at.stands.0 in
     let stands = c.requires.at.stands.1 in
@@ -108,12 +108,12 @@ returns-then-self-clause-came g c =
       journal = sym (append-nil seen.journal);
       place = place;
       here = stands.0;
-      stopped = stands_stopped curve seen c.args.self.now place c.if-self.true stands;
+      stopped = stands_stopped calibration seen c.args.self.now place c.if-self.true stands;
     }
 
 pub returns-in-Ok-Some-clause-ticks : goal.returns-in-Ok-Some-clause-ticks
 returns-in-Ok-Some-clause-ticks g c = λ place stands.
-    let curve = first_curve c.args.curves.now in
+    let calibration = calibration_of c.args.curves.now in
     let seen = g.Q.Port.seen c.args.port.now in
     let new = g.Q.Port.seen c.event-reply.new.self in
     let alone = g.Q.Port.alone c.args.port.now in
@@ -123,18 +123,18 @@ returns-in-Ok-Some-clause-ticks g c = λ place stands.
     let act = asked c.in-Ok-Some.field-0-0.act in
     let G : ℕ → Type 0 = λ n. Grows n alone act (answered c.event-reply.result) seen new in
     let grows = subst G (c.requires.seat ∙ sym same.number) c.event-reply.ensures.grows in
-    counts_settled curve seen new alone c.args.steps.now c.prepare.new.steps place s c.settle.new.self next.line act c.in-Ok-Some.field-0-0.spare c.settle.result (answered c.event-reply.result) (same.stopped ∙ c.if-self.false)
+    counts_settled calibration seen new alone c.args.steps.now c.prepare.new.steps place s c.settle.new.self next.line act c.in-Ok-Some.field-0-0.spare c.settle.result (answered c.event-reply.result) (same.stopped ∙ c.if-self.false)
     (c.prepare.ensures.at seen c.if-self.false c.requires.at) next.here next.act next.spare grows c.settle.ensures.same.0 c.settle.ensures.same.1 c.settle.ensures.came (c.in-Ok-Some.ensures.ticks seen place c.if-self.false c.requires.at stands)
 
 pub returns-in-Err-clause-ticks : goal.returns-in-Err-clause-ticks
 returns-in-Err-clause-ticks g c = λ place stands.
-    let curve = first_curve c.args.curves.now in
+    let calibration = calibration_of c.args.curves.now in
     let seen = g.Q.Port.seen c.args.port.now in
     let s = c.prepare.new.self in
     let counts = c.in-Err.ensures.cut seen place c.if-self.false c.requires.at stands in
     record {
       place = stopped_at counts.place;
-      stands = stopped_on curve seen seen s (record s { stopped = true }) [] counts.place (c.prepare.ensures.same.stopped ∙ c.if-self.false) c.in-Err.ensures.unfinished tt refl (sym (append-nil seen.journal)) refl refl refl refl
+      stands = stopped_on calibration seen seen s (record s { stopped = true }) [] counts.place (c.prepare.ensures.same.stopped ∙ c.if-self.false) c.in-Err.ensures.unfinished tt refl (sym (append-nil seen.journal)) refl refl refl refl
           counts.stands.0.shows counts.stands;
       more = counts.more;
       written = counts.written;

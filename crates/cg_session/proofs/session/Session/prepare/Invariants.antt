@@ -1,6 +1,6 @@
 use Rattle.std.proofs.Common.{◌≡◌, ◌≤◌, ◌-◌, false, length}
 use Rattle.cg_book.specs.Plain.{Seen}
-use Rattle.cg_session.specs.Standing.{first_curve}
+use Rattle.cg_session.specs.Calibration.{calibration_of}
 use Rattle.cg_sharing.specs.Course.{Place}
 use Rattle.cg_session.specs.declared.session.Progress.TheVariants.{Ended}
 use Rattle.cg_session.specs.Session.{StandsAt, IsAt, IsSame}
@@ -13,9 +13,9 @@ invariant-loop-self g l = record {
   same : IsSame l.initial.self l.self;
   within : l.self.done ≤ length l.self.script;
   forward : l.initial.self.done ≤ l.self.done;
-  at : (seen : Seen) → l.initial.self.stopped ≡ false → IsAt (first_curve l.curves) seen l.initial.self → IsAt (first_curve l.curves) seen l.self;
-  counts : (seen : Seen) (place : Place) → l.initial.self.stopped ≡ false → IsAt (first_curve l.curves) seen l.initial.self → StandsAt (first_curve l.curves) seen l.initial.self place →
-      Counts (first_curve l.curves) seen Ended l.initial.steps l.steps place l.self;
+  at : (seen : Seen) → l.initial.self.stopped ≡ false → IsAt (calibration_of l.curves) seen l.initial.self → IsAt (calibration_of l.curves) seen l.self;
+  counts : (seen : Seen) (place : Place) → l.initial.self.stopped ≡ false → IsAt (calibration_of l.curves) seen l.initial.self → StandsAt (calibration_of l.curves) seen l.initial.self place →
+      Counts (calibration_of l.curves) seen Ended l.initial.steps l.steps place l.self;
 }
 
 abbrev pub decreases-loop-self : goal.decreases-loop-self
