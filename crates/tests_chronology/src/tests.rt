@@ -4,3 +4,4 @@ mod grids;
 mod limits;
 mod names;
 mod site;
+mod texts;

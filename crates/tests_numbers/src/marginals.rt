@@ -14,11 +14,16 @@ const THIRD: Ends = (0x5555_5555_5555_5555, 0x5555_5555_5555_5556, -64);
 /// The greatest loss that a row may have: 2^41 - 1.
 pub(crate) const LOSS: u64 = 0x1ff_ffff_ffff;
 
-fn finished<R: AllocGlobal + Abort>(rt: &R, entries: &[Ends]) -> Result<Marginal, Fail> {
+fn row_of<R: AllocGlobal + Abort>(rt: &R, entries: &[Ends]) -> Result<Row, Fail> {
     let mut row = Row::new(rt.alloc());
     for entry in entries {
         row.push(enc(rt, *entry))?;
     }
+    Ok(row)
+}
+
+fn finished<R: AllocGlobal + Abort>(rt: &R, entries: &[Ends]) -> Result<Marginal, Fail> {
+    let row = row_of(rt, entries)?;
     assert!(rt; 0 < row.len() && row.len() <= 512);
     assert!(rt; row.loss() <= LOSS && row.reach() < 0x10_0000);
     Ok(finish(rt.alloc(), &row)?)

@@ -1,9 +1,11 @@
 //! Tables of three cells: the expected entries are of `cases/table_cases.py`.
-ghost use Rattle.std.specs.Prelude.{◌≡◌, ◌<◌, IfOk, length};
+ghost use Rattle.std.specs.Prelude.{◌≡◌, ◌<◌, ◌^◌, All, IfOk, length};
+ghost use Rattle.cg_enc.specs.Enclosure.{IsExponent};
 ghost use Rattle.cg_table.specs.Losses.{greatest_reach};
 ghost use Rattle.cg_table.specs.Table.{table_reach};
 
 use crate::ends::{Ends, HALF, enc, ends};
+use cg_enc::Enc;
 use cg_table::{
     Row, Steps, Tri, after_group, before_group, beside, identity, of_row, spanned, then, then_row,
     total,
@@ -112,15 +114,22 @@ static SPANNED: [Ends; 6] = [
 
 static PLACES: [(usize, usize); 6] = [(0, 0), (0, 1), (0, 2), (1, 1), (1, 2), (2, 2)];
 
-// A table of three cells.
-fn tri(rt: &impl Abort, heap: Global, numbers: &[Ends]) -> Result<Tri, Fail>
-    ensures cells { IfOk result (λ t. t.cells ≡ 3) }
-    ensures reach { IfOk result (λ t. table_reach t ≡ 1) }
+fn entries(rt: &impl Abort, heap: Global, numbers: &[Ends]) -> Result<Vec<Enc>, Fail>
+    ensures { IfOk result (λ entries. All (λ e. IsExponent (2 ^ 60) e.exp) entries.items) }
 {
     let mut entries = Vec::new(heap);
     for ends in numbers {
         entries.push(enc(rt, *ends))?;
     }
+    Ok(entries)
+}
+
+// A table of three cells.
+fn tri(rt: &impl Abort, heap: Global, numbers: &[Ends]) -> Result<Tri, Fail>
+    ensures cells { IfOk result (λ t. t.cells ≡ 3) }
+    ensures reach { IfOk result (λ t. table_reach t ≡ 1) }
+{
+    let entries = entries(rt, heap, numbers)?;
     assert_eq!(rt; entries.len(), 6);
     let made = Tri::of_entries(3, entries);
     assert_eq!(rt; made.reach(), 1);
@@ -149,24 +158,30 @@ fn same(rt: &impl Abort, call: &str, made: &Tri, wanted: &[Ends; 6]) {
 }
 
 #[test]
-fn tables_that_count_no_step(rt: HostRuntime) -> Result<(), Fail> {
-    let left = tri(&rt, rt.alloc(), &LEFT)?;
-    let right = tri(&rt, rt.alloc(), &RIGHT)?;
-    same(&rt, "left", &left, &LEFT);
+fn tables_of_rows(rt: HostRuntime) -> Result<(), Fail> {
     same(&rt, "identity", &identity(rt.alloc(), 3)?, &IDENTITY);
-    same(
-        &rt,
-        "of_row",
-        &of_row(rt.alloc(), &weights(&rt, rt.alloc())?)?,
-        &ROW,
-    );
+    let row = weights(&rt, rt.alloc())?;
+    same(&rt, "of_row", &of_row(rt.alloc(), &row)?, &ROW);
+    Ok(())
+}
+
+#[test]
+fn tables_of_groups(rt: HostRuntime) -> Result<(), Fail> {
+    let left = tri(&rt, rt.alloc(), &LEFT)?;
+    same(&rt, "left", &left, &LEFT);
+    assert_eq!(rt; left.loss(), 1);
     same(&rt, "after_group", &after_group(&left)?, &AFTER);
     same(&rt, "before_group", &before_group(&left)?, &BEFORE);
+    Ok(())
+}
+
+#[test]
+fn totals(rt: HostRuntime) -> Result<(), Fail> {
+    let right = tri(&rt, rt.alloc(), &RIGHT)?;
     assert_eq!(rt;
         ends(total(&right)),
         (0x6aaa_aaaa_aaaa_aaaa, 0x6aaa_aaaa_aaaa_aaab, -61)
     );
-    assert_eq!(rt; left.loss(), 1);
     assert_eq!(rt; right.loss(), 1);
     Ok(())
 }

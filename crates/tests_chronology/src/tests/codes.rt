@@ -3,8 +3,8 @@ ghost use Rattle.cg_model.specs.Dating.{dating_of};
 ghost use Rattle.cg_model.specs.Limits.{IsInRange};
 
 use crate::tests::limits::widest;
+use crate::tests::texts;
 use cg_code::{Code, marginal_code, row_code, table_code};
-use cg_form::read_model;
 use cg_model::{Dating, Grid, ModelTree};
 use cg_num::{Decimal, Year};
 use std::alloc::Global;
@@ -36,7 +36,7 @@ fn row(alloc: Global, dating: &Dating, grid: &Grid, curve: u8) -> Result<String,
 
 // the table of a node of a model
 fn table(alloc: Global, model: &str, place: u32, curve: u8) -> Result<String, Fail> {
-    let model = read_model(alloc, model.as_bytes())?;
+    let model = texts::model(alloc, model)?;
     if place >= model.size() {
         return Err("no node")?;
     }
@@ -53,7 +53,7 @@ fn code_in(alloc: Global, model: &ModelTree, event: u32, curve: u8) -> Result<Co
 }
 
 fn code_of(alloc: Global, model: &str, event: u32, curve: u8) -> Result<Code, Fail> {
-    let model = read_model(alloc, model.as_bytes())?;
+    let model = texts::model(alloc, model)?;
     code_in(alloc, &model, event, curve)
 }
 

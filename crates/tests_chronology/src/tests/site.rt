@@ -1,7 +1,7 @@
 //! A site with each kind of node and of dating.
 ghost use Rattle.std.specs.Prelude.{◌≡◌, IfOk};
 
-use cg_form::read_model;
+use crate::tests::texts;
 use cg_model::{Dating, Found, Members, ModelTree, Name, Node};
 use cg_num::{Decimal, Year};
 use std::alloc::Global;
@@ -18,7 +18,7 @@ fn name(alloc: Global, text: &str) -> Result<Name, Fail>
 
 // the site with an event without a name, which no text says, and a curve
 fn model(alloc: Global) -> Result<ModelTree, Fail> {
-    let read = read_model(alloc, SITE.as_bytes())?;
+    let read = texts::model(alloc, SITE)?;
     let mut top = read.top().copy(alloc)?;
     top.push(Node::Leaf(name(alloc, "")?, Dating::Free))?;
     let curve = name(alloc, "IntCal20.14c")?;

@@ -252,6 +252,13 @@ fn addition(alloc: Global, node: &[&str; 4], count: u32) -> Result<Edit, Fail>
     change(alloc, line.as_str())
 }
 
+fn events_of(alloc: Global, model: &ModelTree, edit: &Edit) -> Result<u32, EditFault>
+    requires { IsInOrder (edit_in edit.now) }
+{
+    let after = applied(alloc, model, edit)?;
+    Ok(after.events())
+}
+
 fn events_after(
     alloc: Global,
     model: &ModelTree,
@@ -259,10 +266,7 @@ fn events_after(
     count: u32,
 ) -> Result<Result<u32, EditFault>, Fail> {
     let edit = addition(alloc, node, count)?;
-    match applied(alloc, model, &edit) {
-        Ok(after) => Ok(Ok(after.events())),
-        Err(fault) => Ok(Err(fault)),
-    }
+    Ok(events_of(alloc, model, &edit))
 }
 
 // how many events there are once a node is added to a Phase of so many
@@ -300,10 +304,16 @@ fn limits(rt: HostRuntime) -> Result<(), Fail> {
     Ok(())
 }
 
+fn after(alloc: Global, model: &ModelTree, edit: &Edit) -> Result<ModelTree, Fail>
+    requires { IsInOrder (edit_in edit.now) }
+{
+    Ok(applied(alloc, model, edit)?)
+}
+
 // a model once "A" has a date
 fn dated(alloc: Global, model: &ModelTree) -> Result<ModelTree, Fail> {
     let edit = change(alloc, "set \"A\" C_Date(-51);")?;
-    Ok(applied(alloc, model, &edit)?)
+    after(alloc, model, &edit)
 }
 
 #[test]

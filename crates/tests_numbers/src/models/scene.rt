@@ -7,8 +7,9 @@ ghost use Rattle.cg_like.specs.Cover.{rows_of};
 ghost use Rattle.cg_up.specs.Curve.{rows_at};
 
 use crate::grids::grid;
+use cg_cql::read_model;
 use cg_curve::{Curve, Curves, read_curve};
-use cg_form::read_model;
+use cg_grammar::CqlFault;
 use cg_like::{LikeFault, covers};
 use cg_marginal::Marginal;
 use cg_model::{Grid, ModelTree};
@@ -17,6 +18,8 @@ use cg_up::evaluate;
 use std::alloc::Global;
 use std::sync::ledger::Ledger;
 use std::test::Fail;
+
+const MAX_BYTES: usize = 100_000;
 
 /// A model, a grid, and one curve or none.
 #[derive(Drop)]
@@ -35,10 +38,27 @@ pub(super) fn read_scene(
     years: (i64, i64),
 ) -> Result<Scene, Fail> {
     Ok(Scene {
-        model: read_model(alloc, model.as_bytes())?,
+        model: read(alloc, model)?,
         grid: grid(years)?,
         curves: curves(alloc, curve)?,
     })
+}
+
+fn read_short(alloc: Global, text: &str) -> Result<ModelTree, Option<CqlFault>> {
+    if text.len() > MAX_BYTES {
+        return Err(None);
+    }
+    match read_model(alloc, text.as_bytes()) {
+        Ok(model) => Ok(model),
+        Err(fault) => Err(Some(fault)),
+    }
+}
+
+fn read(alloc: Global, text: &str) -> Result<ModelTree, Fail> {
+    match read_short(alloc, text) {
+        Ok(model) => Ok(model),
+        Err(_) => Err("no model".into()),
+    }
 }
 
 fn curves(alloc: Global, text: &str) -> Result<Curves, Fail> {

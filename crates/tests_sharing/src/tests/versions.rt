@@ -16,8 +16,9 @@ fn one_model(alloc: Global) -> Result<StartModels, Fail>
     ensures count { IfOk result (λ models. length models ≡ 1) }
     ensures names { IfOk result (λ models. All (λ model. model.name ≡ codes "old") models) }
 {
+    let tree = model(alloc, TWO)?;
     let mut models = StartModels::new(alloc);
-    models.push(name(alloc, "old")?, model(alloc, TWO)?)?;
+    models.push(name(alloc, "old")?, tree)?;
     Ok(models)
 }
 
@@ -43,10 +44,17 @@ fn change_of(
     Ok(made.map(|(number, tree)| (number, tree.events())))
 }
 
+fn make_third(alloc: Global, versions: &mut Versions) -> Result<(), Fail> {
+    match change_of(alloc, versions, 1, "add \"p\" Date(\"N\");")? {
+        Ok(_) => Ok(()),
+        Err(_) => Err("no third version".into()),
+    }
+}
+
 /// Two models, and version 2, which is made from version 1.
 fn three_versions(alloc: Global) -> Result<Versions, Fail> {
     let mut versions = two_models(alloc)?;
-    change_of(alloc, &mut versions, 1, "add \"p\" Date(\"N\");")??;
+    make_third(alloc, &mut versions)?;
     Ok(versions)
 }
 

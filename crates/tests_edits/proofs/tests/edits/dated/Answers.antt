@@ -1,4 +1,4 @@
 use Rattle.tests_edits.proofs.tests.edits.dated.Goals as goal
 
-pub applied-requires : goal.applied-requires
-applied-requires c = c.in_ok-edit.ensures
+pub after-requires : goal.after-requires
+after-requires c = c.in_ok-edit.ensures
