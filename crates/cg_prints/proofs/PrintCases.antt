@@ -52,7 +52,7 @@ third_of name version = record {
 }
 
 -- Whatever the other session commits in between, a print is of the session's own version.
-own_version : map (λ place. prints_of place.written) (interleaving (λ name. []) (main_model ∷ []) (committing ∷ printing ∷ []) (2 ∷ 1 ∷ 1 ∷ 1 ∷ 2 ∷ 2 ∷ [])).places
+own_version : map (λ place. prints_of place.written) (interleaving (λ name. []) (main_model ∷ []) 0 (committing ∷ printing ∷ []) (2 ∷ 1 ∷ 1 ∷ 1 ∷ 2 ∷ 2 ∷ [])).places
     ≡ [] ∷ (third_of (codes "D") 2 ∷ third_of (codes "C") 1 ∷ []) ∷ []
 unfolding result_of
 own_version = refl

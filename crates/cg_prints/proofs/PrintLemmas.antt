@@ -12,7 +12,7 @@ use Rattle.cg_sharing.specs.Command as command
 use Rattle.cg_sharing.specs.Command.{Command, Line}
 use Rattle.cg_sharing.specs.Versions.{State, start_of, chronology_of}
 use Rattle.cg_sharing.specs.Journal as journal
-use Rattle.cg_sharing.specs.Journal.{Answer, Entry, after, IsLegal}
+use Rattle.cg_sharing.specs.Journal.{Answer, Entry, Shared, shared_of, after, shared_by, IsLegal}
 use Rattle.cg_sharing.specs.Cause.{Cause}
 use Rattle.cg_sharing.specs.Pieces.{Print, Piece, Marginal, Ranges, prints_in, prints_of}
 use Rattle.cg_sharing.specs.Course.{Calibration, Place, act_of, grid_or, grid_of, with_piece, with_grid, event_in, event_piece, scene_by, print_piece, model_piece, done_at, settled, entrance_of, begin, answered, went_on, went, moved, walk, IsRunning, IsCourse, IsFit, AreFit}
@@ -146,6 +146,7 @@ kept_answered : (calibration : Calibration) (line : Line) (answer : Answer) (pla
 kept_answered calibration line (journal.At version) place is = record { grid = is.grid; printed = other_more calibration place.written _ refl is.printed }
 kept_answered calibration line (journal.Made version) place is = record { grid = is.grid; printed = other_more calibration place.written _ refl is.printed }
 kept_answered calibration line (journal.Committed version) place is = record { grid = is.grid; printed = other_more calibration place.written _ refl is.printed }
+kept_answered calibration line (journal.Told reply) place is = is
 kept_answered calibration line other place is = record { grid = is.grid; printed = other_more calibration place.written _ refl is.printed }
 
 kept_went : (calibration : Calibration) (state : State) (lines : List Line) (answer : Answer) (place : Place) → HoldsModels state → AreFit lines → GoesOn calibration place → GoesOn calibration (went_on calibration state lines answer place)
@@ -160,25 +161,25 @@ kept_moved calibration session state entry place holds is =
       | false ↦ is
     ]
 
-kept_walk : AreKept → (calibration : Calibration) (session : ℕ) (state : State) (place : Place) (entries : List Entry) → HoldsModels state → GoesOn calibration place → IsLegal state entries →
-    GoesOn calibration (walk calibration session state place entries)
-kept_walk kept calibration session state place [] holds is legal = is
-kept_walk kept calibration session state place (entry ∷ entries) holds is legal =
-    let now = after state entry in
-    let holds_now = holds_after kept state entry.act entry.answer holds legal.0 in
-    kept_walk kept calibration session now (moved calibration session now entry place) entries holds_now (kept_moved calibration session now entry place holds_now is) legal.2
+kept_walk : AreKept → (calibration : Calibration) (session : ℕ) (shared : Shared) (place : Place) (entries : List Entry) → HoldsModels shared.state → GoesOn calibration place → IsLegal shared entries →
+    GoesOn calibration (walk calibration session shared.state place entries)
+kept_walk kept calibration session shared place [] holds is legal = is
+kept_walk kept calibration session shared place (entry ∷ entries) holds is legal =
+    let now = after shared.state entry in
+    let holds_now = holds_after kept shared entry.seat entry.act entry.answer holds legal.0 in
+    kept_walk kept calibration session (shared_by shared entry) (moved calibration session now entry place) entries holds_now (kept_moved calibration session now entry place holds_now is) legal.2
 
 kept_begin : (calibration : Calibration) (session : ℕ) (state : State) (script : List Line) → HoldsModels state → AreFit script → GoesOn calibration (begin calibration session state script)
 kept_begin calibration session state script holds fit = kept_settled calibration state script (entrance_of session) holds fit (record { grid = tt; printed = none_founded calibration })
 
-kept_running : AreKept → (calibration : Calibration) (session : ℕ) (start : State) (script : List Line) (entries : List Entry) (place : Place) → HoldsModels start → AreFit script → IsLegal start entries →
-    IsRunning calibration session start script entries place → AreFounded calibration place.written
+kept_running : AreKept → (calibration : Calibration) (session : ℕ) (start : Shared) (script : List Line) (entries : List Entry) (place : Place) → HoldsModels start.state → AreFit script → IsLegal start entries →
+    IsRunning calibration session start.state script entries place → AreFounded calibration place.written
 kept_running kept calibration session start script entries place holds fit legal run =
     let P : Place → Type 0 = λ p. GoesOn calibration p in
-    (subst P (sym run.reached) (kept_walk kept calibration session start (begin calibration session start script) entries holds (kept_begin calibration session start script holds fit) legal)).kept.printed
+    (subst P (sym run.reached) (kept_walk kept calibration session start (begin calibration session start.state script) entries holds (kept_begin calibration session start.state script holds fit) legal)).kept.printed
 
-kept_course : AreKept → (calibration : Calibration) (session : ℕ) (start : State) (script : List Line) (entries : List Entry) (place : Place) → HoldsModels start → AreFit script → IsLegal start entries →
-    IsCourse calibration session start script entries place → AreFounded calibration place.written
+kept_course : AreKept → (calibration : Calibration) (session : ℕ) (start : Shared) (script : List Line) (entries : List Entry) (place : Place) → HoldsModels start.state → AreFit script → IsLegal start entries →
+    IsCourse calibration session start.state script entries place → AreFounded calibration place.written
 kept_course kept calibration session start script entries place holds fit legal (inl run) = kept_running kept calibration session start script entries place holds fit legal run
 kept_course kept calibration session start script entries place holds fit legal (inr stop) =
     let L : List Entry → Type 0 = λ es. IsLegal start es in
@@ -187,5 +188,5 @@ kept_course kept calibration session start script entries place holds fit legal 
     (All-take (λ (line : Line). IsFit line.command) stop.commands script fit) (IsLegal-front start stop.earlier stop.later (subst L stop.all legal)) stop.running)
 
 pub founded : AreKept → PrintsAreFounded
-founded kept = λ calibration session models script entries place all fit legal course.
-    kept_course kept calibration session (start_of models) script entries place (at_start models all) fit legal course
+founded kept = λ calibration session models capacity script entries place all fit legal course.
+    kept_course kept calibration session (shared_of models capacity) script entries place (at_start models all) fit legal course

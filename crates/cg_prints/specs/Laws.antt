@@ -7,7 +7,7 @@ use Rattle.cg_model.specs.Grid.{IsGrid}
 use Rattle.cg_model.specs.Limits.{IsModel}
 use Rattle.cg_sharing.specs.Command.{Line}
 use Rattle.cg_sharing.specs.Versions.{StartModel, start_of}
-use Rattle.cg_sharing.specs.Journal.{Entry, IsLegal}
+use Rattle.cg_sharing.specs.Journal.{Entry, shared_of, IsLegal}
 use Rattle.cg_sharing.specs.Pieces.{Print, prints_of}
 use Rattle.cg_sharing.specs.Course.{Calibration, Place, scene_by, IsCourse, AreFit}
 
@@ -28,7 +28,7 @@ IsSound model = IsModel model.chronology.top
 -- within their limits, the script is in order, and the journal is legal
 abbrev pub PrintsAreFounded : Type 0
 PrintsAreFounded =
-    (calibration : Calibration) (session : ℕ) (models : List StartModel) (script : List Line) (entries : List Entry)
-    (place : Place) → All IsSound models → AreFit script → IsLegal (start_of models) entries →
+    (calibration : Calibration) (session : ℕ) (models : List StartModel) (capacity : ℕ) (script : List Line)
+    (entries : List Entry) (place : Place) → All IsSound models → AreFit script → IsLegal (shared_of models capacity) entries →
     IsCourse calibration session (start_of models) script entries place →
     All (λ print. IsFounded calibration print) (prints_of place.written)

@@ -42,7 +42,7 @@ add_to_s name = Change (Add (codes "s") (date name))
 -- what sessions of these scripts tell, which take these turns over these models
 abbrev told_by : Calibration → List StartModel → List (List Command) → List ℕ → List (List Piece)
 told_by calibration models scripts turns =
-    map (λ place. place.written) (interleaving calibration models (map (λ commands. lines_from 1 commands) scripts) turns).places
+    map (λ place. place.written) (interleaving calibration models 0 (map (λ commands. lines_from 1 commands) scripts) turns).places
 
 -- no model has a curve
 abbrev uncalibrated : Calibration

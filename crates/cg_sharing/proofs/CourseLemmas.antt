@@ -8,7 +8,7 @@ use Rattle.cg_sharing.specs.Command as command
 use Rattle.cg_sharing.specs.Command.{Command, Line}
 use Rattle.cg_sharing.specs.Versions.{State, Head, count_of, head_of, parent_of, chronology_of}
 use Rattle.cg_sharing.specs.Journal as journal
-use Rattle.cg_sharing.specs.Journal.{Act, Answer, Entry, at_or, made_or, is_base, committed_or, answer_of, with_result, changed_by, after, state_after, May, IsLegal, IsInOrder}
+use Rattle.cg_sharing.specs.Journal.{Act, Answer, Entry, at_or, made_or, is_base, committed_or, answer_of, Shared, with_result, changed_by, after, state_after, shared_by, May, IsLegal, IsInOrder}
 use Rattle.cg_sharing.specs.Course.{Calibration, Place, act_of, first_act, next, grid_of, with_grid, done_at, settled, entrance_of, begin, with_base, bases_after, answered, went_on, went, moved, walk, AreOthers, Follows, IsRunning, IsFit, AreFit}
 use Rattle.cg_sharing.proofs.JournalLemmas.{IsBelow, AreBelow, IsClosed, IsBelow-more, AreBelow-more, head_of-below, parent_of-below, grows-changed_by, count_of-with_version, commit-known, closed-changed_by}
 
@@ -156,36 +156,36 @@ rests-settled calibration state (line ∷ lines) place fit =
     ] refl
 
 -- the act of a version that is known, if there is one
-may_on : (state : State) (to : ℕ → Act) (version : Option ℕ) (act : Act) → ((v : ℕ) → v < count_of state → May state (to v)) → IsBelow (count_of state) version → option_map to version ≡ Some act → May state act
-may_on state to None act may below is = absurd (cc)
-may_on state to (Some v) act may below is = let same : to v ≡ act = cc in subst (λ a. May state a) same (may v below)
+may_on : (shared : Shared) (seat : ℕ) (to : ℕ → Act) (version : Option ℕ) (act : Act) → ((v : ℕ) → v < count_of shared.state → May shared seat (to v)) → IsBelow (count_of shared.state) version → option_map to version ≡ Some act → May shared seat act
+may_on shared seat to None act may below is = absurd (cc)
+may_on shared seat to (Some v) act may below is = let same : to v ≡ act = cc in subst (λ a. May shared seat a) same (may v below)
 
-may_commit : (state : State) (name : Name) (base : Option ℕ) (version : ℕ) → IsBelow (count_of state) base → version < count_of state → May state (journal.Commit name base version)
-may_commit state name None version base known = known
-may_commit state name (Some b) version base known = (base, known)
+may_commit : (shared : Shared) (seat : ℕ) (name : Name) (base : Option ℕ) (version : ℕ) → IsBelow (count_of shared.state) base → version < count_of shared.state → May shared seat (journal.Commit name base version)
+may_commit shared seat name None version base known = known
+may_commit shared seat name (Some b) version base known = (base, known)
 
 -- a session may make each act of its commands
-may_do : (state : State) (place : Place) (c : Command) (act : Act) → Knows (count_of state) place → IsFit c → act_of place c ≡ Some act → May state act
-may_do state place (command.Grid older younger) act knows fit is = absurd (cc)
-may_do state place (command.Open name) act knows fit is = let same : journal.Head name ≡ act = cc in subst (λ a. May state a) same tt
-may_do state place (command.Take version) act knows fit is = let same : journal.Take version ≡ act = cc in subst (λ a. May state a) same tt
-may_do state place command.Undo act knows fit is = may_on state (λ v. journal.Undo v) place.version act (λ v known. known) knows.version is
-may_do state place (command.Change edit) act knows fit is = may_on state (λ v. journal.Change v edit) place.version act (λ v known. (known, fit)) knows.version is
-may_do state place (command.Commit name) act knows fit is =
+may_do : (shared : Shared) (seat : ℕ) (place : Place) (c : Command) (act : Act) → Knows (count_of shared.state) place → IsFit c → act_of place c ≡ Some act → May shared seat act
+may_do shared seat place (command.Grid older younger) act knows fit is = absurd (cc)
+may_do shared seat place (command.Open name) act knows fit is = let same : journal.Head name ≡ act = cc in subst (λ a. May shared seat a) same tt
+may_do shared seat place (command.Take version) act knows fit is = let same : journal.Take version ≡ act = cc in subst (λ a. May shared seat a) same tt
+may_do shared seat place command.Undo act knows fit is = may_on shared seat (λ v. journal.Undo v) place.version act (λ v known. known) knows.version is
+may_do shared seat place (command.Change edit) act knows fit is = may_on shared seat (λ v. journal.Change v edit) place.version act (λ v known. (known, fit)) knows.version is
+may_do shared seat place (command.Commit name) act knows fit is =
     let base = head_of name place.bases in
-    may_on state (λ v. journal.Commit name base v) place.version act (λ v known. may_commit state name base v (head_of-below (count_of state) name place.bases knows.bases) known) knows.version is
-may_do state place (command.Print name) act knows fit is = absurd (cc)
-may_do state place (command.Ranges name) act knows fit is = absurd (cc)
-may_do state place command.Model act knows fit is = absurd (cc)
-may_do state place command.Work act knows fit is = absurd (cc)
+    may_on shared seat (λ v. journal.Commit name base v) place.version act (λ v known. may_commit shared seat name base v (head_of-below (count_of shared.state) name place.bases knows.bases) known) knows.version is
+may_do shared seat place (command.Print name) act knows fit is = absurd (cc)
+may_do shared seat place (command.Ranges name) act knows fit is = absurd (cc)
+may_do shared seat place command.Model act knows fit is = absurd (cc)
+may_do shared seat place command.Work act knows fit is = absurd (cc)
 
-may_first : (state : State) (place : Place) (lines : List Line) (act : Act) → Knows (count_of state) place → AreFit lines → first_act place lines ≡ Some act → May state act
-may_first state place [] act knows fit is = absurd (cc)
-may_first state place (line ∷ lines) act knows fit is = may_do state place line.command act knows (first_fit line lines fit) is
+may_first : (shared : Shared) (seat : ℕ) (place : Place) (lines : List Line) (act : Act) → Knows (count_of shared.state) place → AreFit lines → first_act place lines ≡ Some act → May shared seat act
+may_first shared seat place [] act knows fit is = absurd (cc)
+may_first shared seat place (line ∷ lines) act knows fit is = may_do shared seat place line.command act knows (first_fit line lines fit) is
 
 -- and so its next one
-pub may_next : (state : State) (place : Place) (act : Act) → Knows (count_of state) place → AreFit place.left → next place ≡ Some act → May state act
-may_next state place act knows fit is = may_first state place place.left act knows fit is
+pub may_next : (shared : Shared) (seat : ℕ) (place : Place) (act : Act) → Knows (count_of shared.state) place → AreFit place.left → next place ≡ Some act → May shared seat act
+may_next shared seat place act knows fit is = may_first shared seat place place.left act knows fit is
 
 -- the version that an answer names is known
 abbrev pub SaysBelow : ℕ → Answer → Type 0
@@ -218,18 +218,20 @@ says-change state version edit (Ok top) is =
     subst P (sym is) (omega (arith, count_of-with_version version top state))
 
 -- after a legal entry
-pub says-answer : (state : State) (act : Act) → IsClosed state → May state act → SaysBelow (count_of (changed_by act (answer_of state act) state)) (answer_of state act)
-says-answer state (journal.Head name) closed may = says-at (count_of state) journal.NoModel (head_of name state.heads) tt (head_of-below (count_of state) name state.heads closed.heads)
-says-answer state (journal.Take version) closed may =
-    elim (nat_lt version (count_of state)) as (λ b. nat_lt version (count_of state) ≡ b → SaysBelow (count_of state) (cond b (journal.At version) (journal.NoVersion (count_of state)))) [
-      | true ↦ λ is. ltb-true version (count_of state) is
+pub says-answer : (shared : Shared) (seat : ℕ) (act : Act) → IsClosed shared.state → May shared seat act →
+    SaysBelow (count_of (changed_by act (answer_of shared act) shared.state)) (answer_of shared act)
+says-answer shared seat (journal.Head name) closed may = says-at (count_of shared.state) journal.NoModel (head_of name shared.state.heads) tt (head_of-below (count_of shared.state) name shared.state.heads closed.heads)
+says-answer shared seat (journal.Take version) closed may =
+    elim (nat_lt version (count_of shared.state)) as (λ b. nat_lt version (count_of shared.state) ≡ b → SaysBelow (count_of shared.state) (cond b (journal.At version) (journal.NoVersion (count_of shared.state)))) [
+      | true ↦ λ is. ltb-true version (count_of shared.state) is
       | false ↦ λ _. tt
     ] refl
-says-answer state (journal.Undo version) closed may = says-at (count_of state) journal.NoParent (parent_of state version) tt (parent_of-below (count_of state) state.versions version closed.parents)
-says-answer state (journal.Change version edit) closed may = says-change state version edit (result_of edit (chronology_of state version).top) refl
-says-answer state (journal.Commit name base version) closed may =
-    says-more (grows-changed_by (journal.Commit name base version) (answer_of state (journal.Commit name base version)) state) (answer_of state (journal.Commit name base version))
-    (says-committed (count_of state) base version (head_of name state.heads) (commit-known state name base version may))
+says-answer shared seat (journal.Undo version) closed may = says-at (count_of shared.state) journal.NoParent (parent_of shared.state version) tt (parent_of-below (count_of shared.state) shared.state.versions version closed.parents)
+says-answer shared seat (journal.Change version edit) closed may = says-change shared.state version edit (result_of edit (chronology_of shared.state version).top) refl
+says-answer shared seat (journal.Commit name base version) closed may =
+    says-more (grows-changed_by (journal.Commit name base version) (answer_of shared (journal.Commit name base version)) shared.state) (answer_of shared (journal.Commit name base version))
+    (says-committed (count_of shared.state) base version (head_of name shared.state.heads) (commit-known shared seat name base version may))
+says-answer shared seat (journal.Do deed) closed may = tt
 
 with_base-below : (count : ℕ) (name : Name) (version : ℕ) (bases : List Head) → version < count → AreBelow count bases → AreBelow count (with_base name version bases)
 with_base-below count name version [] known below = (known, tt)
@@ -251,51 +253,51 @@ knows-answered count line (journal.Made version) place says knows = record { ver
 knows-answered count line (journal.Committed version) place says knows = record { version = knows.version; bases = bases_after-below count line.command version place.bases says knows.bases; going = knows.going }
 knows-answered count line other place says knows = record { version = knows.version; bases = knows.bases; going = knows.going }
 
-went_first : (calibration : Calibration) (state : State) (place : Place) (lines : List Line) (act : Act) (answer : Answer) → Knows (count_of state) place → AreFit lines → IsClosed state → first_act place lines ≡ Some act →
-    answer ≡ answer_of state act → let now = changed_by act answer state in let new = went_on calibration now lines answer place in Knows (count_of now) new × Rests new × (length new.left < length lines)
-went_first calibration state place [] act answer knows fit closed is right = absurd (cc)
-went_first calibration state place (line ∷ lines) act answer knows fit closed is right =
-    let now = changed_by act answer state in
-    let may = may_do state place line.command act knows (first_fit line lines fit) is in
-    let P : Answer → Type 0 = λ a. SaysBelow (count_of (changed_by act a state)) a in
-    let says = subst P (sym right) (says-answer state act closed may) in
-    let told = knows-answered (count_of now) line answer place says (Knows-more (grows-changed_by act answer state) place knows) in (
+went_first : (calibration : Calibration) (shared : Shared) (seat : ℕ) (place : Place) (lines : List Line) (act : Act) (answer : Answer) → Knows (count_of shared.state) place → AreFit lines → IsClosed shared.state → first_act place lines ≡ Some act →
+    answer ≡ answer_of shared act → let now = changed_by act answer shared.state in let new = went_on calibration now lines answer place in Knows (count_of now) new × Rests new × (length new.left < length lines)
+went_first calibration shared seat place [] act answer knows fit closed is right = absurd (cc)
+went_first calibration shared seat place (line ∷ lines) act answer knows fit closed is right =
+    let now = changed_by act answer shared.state in
+    let may = may_do shared seat place line.command act knows (first_fit line lines fit) is in
+    let P : Answer → Type 0 = λ a. SaysBelow (count_of (changed_by act a shared.state)) a in
+    let says = subst P (sym right) (says-answer shared seat act closed may) in
+    let told = knows-answered (count_of now) line answer place says (Knows-more (grows-changed_by act answer shared.state) place knows) in (
       Keeps-knows (count_of now) (answered line answer place) (settled calibration now lines (answered line answer place)) (keeps-settled calibration now lines (answered line answer place)) told,
       rests-settled calibration now lines (answered line answer place) (others_fit line lines fit),
       omega (arith, length-settled calibration now lines (answered line answer place)),
     )
 
 -- After the answer to its next act a session knows its versions and is at rest, with fewer lines left.
-pub went_next : (calibration : Calibration) (state : State) (place : Place) (act : Act) (answer : Answer) → Knows (count_of state) place → Rests place → IsClosed state → next place ≡ Some act → answer ≡ answer_of state act →
-    let now = changed_by act answer state in let new = went calibration now answer place in Knows (count_of now) new × Rests new × (length new.left < length place.left)
-went_next calibration state place act answer knows rests closed is right = went_first calibration state place place.left act answer knows rests.fit closed is right
+pub went_next : (calibration : Calibration) (shared : Shared) (seat : ℕ) (place : Place) (act : Act) (answer : Answer) → Knows (count_of shared.state) place → Rests place → IsClosed shared.state → next place ≡ Some act → answer ≡ answer_of shared act →
+    let now = changed_by act answer shared.state in let new = went calibration now answer place in Knows (count_of now) new × Rests new × (length new.left < length place.left)
+went_next calibration shared seat place act answer knows rests closed is right = went_first calibration shared seat place place.left act answer knows rests.fit closed is right
 
 -- It does where it begins
 pub begin_knows : (calibration : Calibration) (session : ℕ) (start : State) (script : List Line) → Knows (count_of start) (begin calibration session start script)
 begin_knows calibration session start script =
     Keeps-knows (count_of start) (entrance_of session) (begin calibration session start script) (keeps-settled calibration start script (entrance_of session)) (record { version = tt; bases = tt; going = refl })
 
-moved_on : (calibration : Calibration) (session : ℕ) (state : State) (entry : Entry) (place : Place) → Knows (count_of state) place → Rests place → IsClosed state → May state entry.act → entry.answer ≡ answer_of state entry.act →
-    (entry.seat ≡ session → next place ≡ Some entry.act) → Knows (count_of (after state entry)) (moved calibration session (after state entry) entry place) × Rests (moved calibration session (after state entry) entry place)
-moved_on calibration session state entry place knows rests closed may right follows =
-    let now = after state entry in
+moved_on : (calibration : Calibration) (session : ℕ) (shared : Shared) (entry : Entry) (place : Place) → Knows (count_of shared.state) place → Rests place → IsClosed shared.state → May shared entry.seat entry.act → entry.answer ≡ answer_of shared entry.act →
+    (entry.seat ≡ session → next place ≡ Some entry.act) → Knows (count_of (after shared.state entry)) (moved calibration session (after shared.state entry) entry place) × Rests (moved calibration session (after shared.state entry) entry place)
+moved_on calibration session shared entry place knows rests closed may right follows =
+    let now = after shared.state entry in
     elim (nat_eq entry.seat session) as (λ b. nat_eq entry.seat session ≡ b → let new = cond b (went calibration now entry.answer place) place in Knows (count_of now) new × Rests new) [
-      | true ↦ λ own. let new = went_next calibration state place entry.act entry.answer knows rests closed (follows (eqb-true entry.seat session own)) right in (new.0, new.1)
-      | false ↦ λ _. (Knows-more (grows-changed_by entry.act entry.answer state) place knows, rests)
+      | true ↦ λ own. let new = went_next calibration shared entry.seat place entry.act entry.answer knows rests closed (follows (eqb-true entry.seat session own)) right in (new.0, new.1)
+      | false ↦ λ _. (Knows-more (grows-changed_by entry.act entry.answer shared.state) place knows, rests)
     ] refl
 
 -- and along a legal journal.
-pub walk_knows : (calibration : Calibration) (session : ℕ) (state : State) (place : Place) (xs : List Entry) → Knows (count_of state) place → Rests place → IsClosed state → IsLegal state xs → Follows calibration session state place xs →
-    Knows (count_of (state_after state xs)) (walk calibration session state place xs) × Rests (walk calibration session state place xs)
-walk_knows calibration session state place [] knows rests closed legal follows = (knows, rests)
-walk_knows calibration session state place (x ∷ xs) knows rests closed legal follows =
-    let now = after state x in
-    let new = moved_on calibration session state x place knows rests closed legal.0 legal.1 follows.0 in
-    walk_knows calibration session now (moved calibration session now x place) xs new.0 new.1 (closed-changed_by x.act x.answer state legal.0 closed) legal.2 follows.1
+pub walk_knows : (calibration : Calibration) (session : ℕ) (shared : Shared) (place : Place) (xs : List Entry) → Knows (count_of shared.state) place → Rests place → IsClosed shared.state → IsLegal shared xs → Follows calibration session shared.state place xs →
+    Knows (count_of (state_after shared.state xs)) (walk calibration session shared.state place xs) × Rests (walk calibration session shared.state place xs)
+walk_knows calibration session shared place [] knows rests closed legal follows = (knows, rests)
+walk_knows calibration session shared place (x ∷ xs) knows rests closed legal follows =
+    let now = after shared.state x in
+    let new = moved_on calibration session shared x place knows rests closed legal.0 legal.1 follows.0 in
+    walk_knows calibration session (shared_by shared x) (moved calibration session now x place) xs new.0 new.1 (closed-changed_by x.seat x.act x.answer shared legal.0 closed) legal.2 follows.1
 
 -- What a session knows at a place of its course over a legal journal.
-pub running_knows : (calibration : Calibration) (session : ℕ) (start : State) (script : List Line) (xs : List Entry) (place : Place) → IsClosed start → AreFit script → IsLegal start xs → IsRunning calibration session start script xs place →
-    Knows (count_of (state_after start xs)) place × Rests place
+pub running_knows : (calibration : Calibration) (session : ℕ) (start : Shared) (script : List Line) (xs : List Entry) (place : Place) → IsClosed start.state → AreFit script → IsLegal start xs → IsRunning calibration session start.state script xs place →
+    Knows (count_of (state_after start.state xs)) place × Rests place
 running_knows calibration session start script xs place closed fit legal run =
-    let P : Place → Type 0 = λ p. Knows (count_of (state_after start xs)) p × Rests p in
-    subst P (sym run.reached) (walk_knows calibration session start (begin calibration session start script) xs (begin_knows calibration session start script) (rests-settled calibration start script (entrance_of session) fit) closed legal run.follows)
+    let P : Place → Type 0 = λ p. Knows (count_of (state_after start.state xs)) p × Rests p in
+    subst P (sym run.reached) (walk_knows calibration session start (begin calibration session start.state script) xs (begin_knows calibration session start.state script) (rests-settled calibration start.state script (entrance_of session) fit) closed legal run.follows)

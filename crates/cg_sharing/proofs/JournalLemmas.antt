@@ -4,22 +4,32 @@ use Rattle.std.specs.Prelude.{slice_get, bytes_eq}
 use Rattle.cg_meaning.specs.Tree.{Name, Trees}
 use Rattle.cg_sharing.specs.Edit.{EditFault, result_of}
 use Rattle.cg_sharing.specs.Versions.{Version, Head, State, StartModel, heads_from, start_of, count_of, head_of, with_head, parent_at, chronology_of, with_version}
-use Rattle.cg_sharing.specs.Journal.{Act, Change, Commit, Answer, Made, Committed, Entry, with_result, changed_by, after, state_after, May, IsLegal}
+use Rattle.cg_sharing.specs.Journal.{Act, Change, Commit, Answer, Made, Committed, Entry, Shared, with_result, changed_by, after, state_after, shared_by, shared_after, May, IsLegal}
 
 -- the state after two lists of entries
 pub state_after-append : (state : State) (xs ys : List Entry) → state_after state (xs ++ ys) ≡ state_after (state_after state xs) ys
 state_after-append state [] ys = refl
 state_after-append state (x ∷ xs) ys = state_after-append (after state x) xs ys
 
+-- what is shared after two lists of entries
+pub shared_after-append : (shared : Shared) (xs ys : List Entry) → shared_after shared (xs ++ ys) ≡ shared_after (shared_after shared xs) ys
+shared_after-append shared [] ys = refl
+shared_after-append shared (x ∷ xs) ys = shared_after-append (shared_by shared x) xs ys
+
+-- the versions go their own way
+pub state-shared_after : (shared : Shared) (xs : List Entry) → (shared_after shared xs).state ≡ state_after shared.state xs
+state-shared_after shared [] = refl
+state-shared_after shared (x ∷ xs) = state-shared_after (shared_by shared x) xs
+
 -- a legal journal goes on
-pub IsLegal-append : (state : State) (xs ys : List Entry) → IsLegal state xs → IsLegal (state_after state xs) ys → IsLegal state (xs ++ ys)
-IsLegal-append state [] ys first then = then
-IsLegal-append state (x ∷ xs) ys first then = (first.0, first.1, IsLegal-append (after state x) xs ys first.2 then)
+pub IsLegal-append : (shared : Shared) (xs ys : List Entry) → IsLegal shared xs → IsLegal (shared_after shared xs) ys → IsLegal shared (xs ++ ys)
+IsLegal-append shared [] ys first then = then
+IsLegal-append shared (x ∷ xs) ys first then = (first.0, first.1, IsLegal-append (shared_by shared x) xs ys first.2 then)
 
 -- its first entries are legal
-pub IsLegal-front : (state : State) (xs ys : List Entry) → IsLegal state (xs ++ ys) → IsLegal state xs
-IsLegal-front state [] ys legal = tt
-IsLegal-front state (x ∷ xs) ys legal = (legal.0, legal.1, IsLegal-front (after state x) xs ys legal.2)
+pub IsLegal-front : (shared : Shared) (xs ys : List Entry) → IsLegal shared (xs ++ ys) → IsLegal shared xs
+IsLegal-front shared [] ys legal = tt
+IsLegal-front shared (x ∷ xs) ys legal = (legal.0, legal.1, IsLegal-front (shared_by shared x) xs ys legal.2)
 
 -- a version that may be missing is below a count
 abbrev pub IsBelow : ℕ → Option ℕ → Type 0
@@ -121,23 +131,25 @@ closed-with_result parent (Ok top) state known closed =
     }
 
 -- a commit's version is known
-pub commit-known : (state : State) (name : Name) (base : Option ℕ) (version : ℕ) → May state (Commit name base version) → version < count_of state
-commit-known state name None version may = may
-commit-known state name (Some base) version may = may.1
+pub commit-known : (shared : Shared) (seat : ℕ) (name : Name) (base : Option ℕ) (version : ℕ) → May shared seat (Commit name base version) → version < count_of shared.state
+commit-known shared seat name None version may = may
+commit-known shared seat name (Some base) version may = may.1
 
 -- a state stays closed
-pub closed-changed_by : (act : Act) (answer : Answer) (state : State) → May state act → IsClosed state → IsClosed (changed_by act answer state)
-closed-changed_by (Change version edit) (Made number) state may closed = closed-with_result version (result_of edit (chronology_of state version).top) state may.0 closed
-closed-changed_by (Commit name base version) (Committed number) state may closed = record {
-  heads = with_head-below (count_of state) name version state.heads (commit-known state name base version may) closed.heads;
+pub closed-changed_by : (seat : ℕ) (act : Act) (answer : Answer) (shared : Shared) → May shared seat act → IsClosed shared.state → IsClosed (changed_by act answer shared.state)
+closed-changed_by seat (Change version edit) (Made number) shared may closed =
+    closed-with_result version (result_of edit (chronology_of shared.state version).top) shared.state may.0 closed
+closed-changed_by seat (Commit name base version) (Committed number) shared may closed = record {
+  heads = with_head-below (count_of shared.state) name version shared.state.heads (commit-known shared seat name base version may) closed.heads;
   parents = closed.parents;
 }
-closed-changed_by act answer state may closed = closed
+closed-changed_by seat act answer shared may closed = closed
 
 -- after a legal journal too
-pub closed-after : (state : State) (entries : List Entry) → IsLegal state entries → IsClosed state → IsClosed (state_after state entries)
-closed-after state [] legal closed = closed
-closed-after state (entry ∷ entries) legal closed = closed-after (after state entry) entries legal.2 (closed-changed_by entry.act entry.answer state legal.0 closed)
+pub closed-after : (shared : Shared) (entries : List Entry) → IsLegal shared entries → IsClosed shared.state → IsClosed (state_after shared.state entries)
+closed-after shared [] legal closed = closed
+closed-after shared (entry ∷ entries) legal closed =
+    closed-after (shared_by shared entry) entries legal.2 (closed-changed_by entry.seat entry.act entry.answer shared legal.0 closed)
 
 -- no entry takes a version away
 pub grows-state_after : (state : State) (entries : List Entry) → count_of state ≤ count_of (state_after state entries)

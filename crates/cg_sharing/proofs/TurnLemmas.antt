@@ -105,10 +105,10 @@ pub turns_are : (calibration : Calibration) (turns : List ℕ) (world : World) �
 turns_are calibration [] world = refl
 turns_are calibration (session ∷ turns) world = (turn calibration session world, inl refl, turns_are calibration turns (turn calibration session world))
 
-pub interleaving_is : (calibration : Calibration) (models : List StartModel) (scripts : List (List Line)) (turns : List ℕ) → IsInterleaving calibration models scripts turns (interleaving calibration models scripts turns)
-interleaving_is calibration models scripts turns =
-    let met = turns_taken calibration turns (begun calibration models scripts) in
-    record { met = met; taken = turns_are calibration turns (begun calibration models scripts); run_out = turns_are calibration (last_turns 1 met.places) met }
+pub interleaving_is : (calibration : Calibration) (models : List StartModel) (capacity : ℕ) (scripts : List (List Line)) (turns : List ℕ) → IsInterleaving calibration models capacity scripts turns (interleaving calibration models capacity scripts turns)
+interleaving_is calibration models capacity scripts turns =
+    let met = turns_taken calibration turns (begun calibration models capacity scripts) in
+    record { met = met; taken = turns_are calibration turns (begun calibration models capacity scripts); run_out = turns_are calibration (last_turns 1 met.places) met }
 
 -- Want of memory has stopped the session.
 pub record IsGone (session : ℕ) (world : World) : Type 0 where
@@ -176,8 +176,8 @@ no_stop calibration (x ∷ xs) ys old mid end first then none =
     ]
 
 pub turns_decide_all : TurnsDecide
-turns_decide_all = λ calibration models scripts turns end is none.
-    let first = no_stop calibration turns (last_turns 1 is.met.places) (begun calibration models scripts) is.met end is.taken is.run_out none in
+turns_decide_all = λ calibration models capacity scripts turns end is none.
+    let first = no_stop calibration turns (last_turns 1 is.met.places) (begun calibration models capacity scripts) is.met end is.taken is.run_out none in
     let last = no_stop calibration (last_turns 1 is.met.places) [] is.met end end is.run_out refl none in
     last ∙ ap (λ w. run_out calibration w) first
 
@@ -193,7 +193,7 @@ one_of (suc i) places place here = let within = slice_get_within places i place 
 of_act : (calibration : Calibration) (count session : ℕ) (place : Place) (act : Option Act) (world : World) → place_of session world.places ≡ Some place → AreOfSessions count world → AreOfSessions count (world_after calibration session place act world)
 of_act calibration count session place None world here are = are
 of_act calibration count session place (Some act) world here are =
-    let entry : Entry = record { seat = session; act = act; answer = answer_of world.state act } in
+    let entry : Entry = record { seat = session; act = act; answer = answer_of world.shared act } in
     let one = one_of session world.places place here in
     record {
       places = length-with_place session _ world.places ∙ are.places;
@@ -218,8 +218,8 @@ length-begins calibration start session [] = refl
 length-begins calibration start session (script ∷ scripts) = ap (λ n. suc n) (length-begins calibration start (session + 1) scripts)
 
 pub all_of_sessions : EntriesAreOfSessions
-all_of_sessions = λ calibration models scripts turns end is.
+all_of_sessions = λ calibration models capacity scripts turns end is.
     let count = length scripts in
-    let first : AreOfSessions count (begun calibration models scripts) =
+    let first : AreOfSessions count (begun calibration models capacity scripts) =
     record { places = length-begins calibration (start_of models) 1 scripts; entries = All-nil (IsOfSession count) } in
-    (of_turns calibration count (last_turns 1 is.met.places) is.met end (of_turns calibration count turns (begun calibration models scripts) is.met first is.taken) is.run_out).entries
+    (of_turns calibration count (last_turns 1 is.met.places) is.met end (of_turns calibration count turns (begun calibration models capacity scripts) is.met first is.taken) is.run_out).entries

@@ -182,6 +182,7 @@ answered line (journal.NoVersion count) place = refused line.number (cause.NoVer
 answered line journal.NoParent place = refused line.number cause.NoParent place
 answered line (journal.Refused fault) place = refused line.number (cause.Fault fault) place
 answered line (journal.Moved head) place = refused line.number (cause.Moved head) place
+answered line (journal.Told reply) place = place
 
 abbrev pub went_on : Calibration → State → List Line → Answer → Place → Place
 went_on calibration state [] answer place = place

@@ -3,12 +3,12 @@ use Rattle.std.specs.Prelude.{◌≡◌, ◌⊎◌, ℕ, zero, suc, ◌+◌, ◌
 use Rattle.std.specs.List.{All, list_any}
 use Rattle.cg_sharing.specs.Command.{Line}
 use Rattle.cg_sharing.specs.Versions.{State, StartModel, start_of}
-use Rattle.cg_sharing.specs.Journal.{Act, Entry, answer_of, after, IsLegal}
+use Rattle.cg_sharing.specs.Journal.{Act, Entry, Shared, shared_of, answer_of, shared_by, IsLegal}
 use Rattle.cg_sharing.specs.Course.{Calibration, Place, next, begin, went, IsRunning, IsEnded, AreFit}
 
--- The state, the journal of all entries so far, and where the sessions are that are numbered from 1 on.
+-- What is shared, the journal of all entries so far, and where the sessions are that are numbered from 1 on.
 pub record World : Type 0 where
-  pub state : State
+  pub shared : Shared
   pub journal : List Entry
   pub places : List Place
 
@@ -26,12 +26,12 @@ with_place (suc earlier) place places = slice_set places earlier place
 abbrev pub world_after : Calibration → ℕ → Place → Option Act → World → World
 world_after calibration session place None world = world
 world_after calibration session place (Some act) world =
-    let entry : Entry = record { seat = session; act = act; answer = answer_of world.state act } in
-    let state = after world.state entry in
+    let entry : Entry = record { seat = session; act = act; answer = answer_of world.shared act } in
+    let shared = shared_by world.shared entry in
     record {
-      state = state;
+      shared = shared;
       journal = world.journal ++ entry ∷ [];
-      places = with_place session (went calibration state entry.answer place) world.places;
+      places = with_place session (went calibration shared.state entry.answer place) world.places;
     }
 
 abbrev pub advanced : Calibration → ℕ → Option Place → World → World
@@ -53,9 +53,9 @@ begins calibration start session [] = []
 begins calibration start session (script ∷ scripts) =
     begin calibration session start script ∷ begins calibration start (session + 1) scripts
 
-abbrev pub begun : Calibration → List StartModel → List (List Line) → World
-begun calibration models scripts = record {
-  state = start_of models;
+abbrev pub begun : Calibration → List StartModel → ℕ → List (List Line) → World
+begun calibration models capacity scripts = record {
+  shared = shared_of models capacity;
   journal = [];
   places = begins calibration (start_of models) 1 scripts;
 }
@@ -71,8 +71,8 @@ abbrev pub run_out : Calibration → World → World
 run_out calibration world = turns_taken calibration (last_turns 1 world.places) world
 
 -- what comes of these turns, and of the sessions' running to their ends behind them
-abbrev pub interleaving : Calibration → List StartModel → List (List Line) → List ℕ → World
-interleaving calibration models scripts turns = run_out calibration (turns_taken calibration turns (begun calibration models scripts))
+abbrev pub interleaving : Calibration → List StartModel → ℕ → List (List Line) → List ℕ → World
+interleaving calibration models capacity scripts turns = run_out calibration (turns_taken calibration turns (begun calibration models capacity scripts))
 
 -- In its turn want of memory stops the session: it makes no act, now or later, and all else stays.
 pub record IsStop (session : ℕ) (old new : World) : Type 0 where
@@ -91,9 +91,9 @@ AreTurns calibration (session ∷ sessions) old new =
     (between : World) × ((between ≡ turn calibration session old) ⊎ IsStop session old between) × AreTurns calibration sessions between new
 
 -- What comes of these turns, and of the sessions' running to their ends behind them, where some may be stopped.
-pub record IsInterleaving (calibration : Calibration) (models : List StartModel) (scripts : List (List Line)) (turns : List ℕ) (end : World) : Type 0 where
+pub record IsInterleaving (calibration : Calibration) (models : List StartModel) (capacity : ℕ) (scripts : List (List Line)) (turns : List ℕ) (end : World) : Type 0 where
   pub met : World
-  pub taken : AreTurns calibration turns (begun calibration models scripts) met
+  pub taken : AreTurns calibration turns (begun calibration models capacity scripts) met
   pub run_out : AreTurns calibration (last_turns 1 met.places) met end
 
 -- want of memory stopped one of the sessions at these places
@@ -111,15 +111,15 @@ AreWhole calibration session start (script ∷ scripts) entries (place ∷ place
 -- whatever the turns are, the journal is legal, and each session runs to its end in a course of its own script
 abbrev pub EachRunsToItsEnd : Type 0
 EachRunsToItsEnd =
-    (calibration : Calibration) (models : List StartModel) (scripts : List (List Line)) (turns : List ℕ) → All AreFit scripts →
-    let end = interleaving calibration models scripts turns in
-    IsLegal (start_of models) end.journal × AreWhole calibration 1 (start_of models) scripts end.journal end.places
+    (calibration : Calibration) (models : List StartModel) (capacity : ℕ) (scripts : List (List Line)) (turns : List ℕ) → All AreFit scripts →
+    let end = interleaving calibration models capacity scripts turns in
+    IsLegal (shared_of models capacity) end.journal × AreWhole calibration 1 (start_of models) scripts end.journal end.places
 
 -- where want of memory stopped no session, the turns decide all
 abbrev pub TurnsDecide : Type 0
 TurnsDecide =
-    (calibration : Calibration) (models : List StartModel) (scripts : List (List Line)) (turns : List ℕ) (end : World) →
-    IsInterleaving calibration models scripts turns end → some_stopped end.places ≡ false → end ≡ interleaving calibration models scripts turns
+    (calibration : Calibration) (models : List StartModel) (capacity : ℕ) (scripts : List (List Line)) (turns : List ℕ) (end : World) →
+    IsInterleaving calibration models capacity scripts turns end → some_stopped end.places ≡ false → end ≡ interleaving calibration models capacity scripts turns
 
 -- an entry is of one of so many sessions
 abbrev pub IsOfSession : ℕ → Entry → Type 0
@@ -128,5 +128,5 @@ IsOfSession count entry = (1 ≤ entry.seat) × (entry.seat ≤ count)
 -- whatever the turns are and whichever sessions are stopped, each entry is of one of the sessions
 abbrev pub EntriesAreOfSessions : Type 0
 EntriesAreOfSessions =
-    (calibration : Calibration) (models : List StartModel) (scripts : List (List Line)) (turns : List ℕ) (end : World) →
-    IsInterleaving calibration models scripts turns end → All (IsOfSession (length scripts)) end.journal
+    (calibration : Calibration) (models : List StartModel) (capacity : ℕ) (scripts : List (List Line)) (turns : List ℕ) (end : World) →
+    IsInterleaving calibration models capacity scripts turns end → All (IsOfSession (length scripts)) end.journal
