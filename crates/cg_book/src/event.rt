@@ -1,10 +1,13 @@
+use cg_cache::Ticket;
+use cg_code::Code;
 use cg_edit::{Edit, EditFault};
 use cg_model::{ModelTree, Name};
 use std::sync::Arc;
 
 /// What a session asks of the book. Versions are named by their numbers.
-#[derive(Drop)]
-pub enum Event {
+///
+/// An event may bring a ticket, which must be spent, so events have no `Drop`.
+pub enum Event<P> {
     /// The version that a model's name stands for.
     Head(Name),
     /// A version.
@@ -15,17 +18,34 @@ pub enum Event {
     Change(u32, Edit),
     /// That a name stand for a version, where it stands for the base now.
     Commit(Name, Option<u32>, u32),
+    /// The payload of a code, or the ticket to make it.
+    Claim(Arc<Code>),
+    /// That a payload be kept, which was made under a claim.
+    Publish(Ticket, Arc<P>),
+    /// That a claim be free again.
+    GiveBack(Ticket),
 }
 
-/// What the book replies.
-#[derive(Drop)]
-pub enum Reply {
+/// What the book replies. A reply may hand out a ticket, which must be spent, so replies have no `Drop`.
+pub enum Reply<P> {
     /// A version.
     At(u32, Arc<ModelTree>),
     /// A further version.
     Made(u32, Arc<ModelTree>),
     /// The name stands for this version now.
     Committed(u32),
+    /// The code's payload.
+    Hit(Arc<P>),
+    /// The ticket: it's the seat's to make the payload.
+    Mine(Ticket),
+    /// This seat has claimed the code.
+    Busy(u32),
+    /// As many codes are claimed as the cache has room for.
+    NoRoom,
+    /// The payload is kept, and the claim is closed.
+    Published,
+    /// The claim is closed.
+    Returned,
     /// No head has the name.
     NoModel,
     /// There are only so many versions.

@@ -1,12 +1,16 @@
 ghost use Rattle.std.specs.Prelude.{◌≡◌, [], ◌∷◌, ◌++◌, map, option_map, OnOk, OnErr};
-ghost use Rattle.cg_book.specs.Plain.{act_in, answer_in, asked, answered, entry_in};
+ghost use Rattle.cg_book.specs.Plain.{act_in, answer_in, answered, entry_in};
+ghost use Rattle.cg_book.specs.Replies.{question_in};
 
-use crate::event::{Event, Reply};
+use crate::event::Reply;
+use crate::question::Question;
+use cg_code::Code;
 use cg_edit::{Edit, EditFault};
 use cg_model::Name;
 use cg_num::NoMemory;
 use std::alloc::Global;
 use std::marker::Model;
+use std::sync::Arc;
 
 /// What a session asks of the book.
 #[derive(Drop)]
@@ -21,19 +25,25 @@ pub enum Act {
     Change(u32, Edit),
     /// That a name stand for a version, where it stands for the base.
     Commit(Name, Option<u32>, u32),
+    /// The payload of a code, or the ticket to make it.
+    Claim(Arc<Code>),
+    /// That the payload of a code be kept, which the seat has claimed.
+    Publish(Arc<Code>),
+    /// That the claim of a code be free again.
+    GiveBack(Arc<Code>),
 }
 
 impl Act {
-    // the act that an event asks for
-    pub(crate) fn of(event: Event) -> Act
-        ensures { act_in result ≡ asked event }
+    // the act of a question
+    pub(crate) fn of(question: Question) -> Act
+        ensures { act_in result ≡ question_in question }
     {
-        match event {
-            Event::Head(name) => Act::Head(name),
-            Event::Take(version) => Act::Take(version),
-            Event::Undo(version) => Act::Undo(version),
-            Event::Change(version, edit) => Act::Change(version, edit),
-            Event::Commit(name, base, version) => Act::Commit(name, base, version),
+        match question {
+            Question::Head(name) => Act::Head(name),
+            Question::Take(version) => Act::Take(version),
+            Question::Undo(version) => Act::Undo(version),
+            Question::Change(version, edit) => Act::Change(version, edit),
+            Question::Commit(name, base, version) => Act::Commit(name, base, version),
         }
     }
 }
@@ -47,6 +57,18 @@ pub enum Answer {
     Made(u32),
     /// The name stands for this version.
     Committed(u32),
+    /// The code's payload.
+    Hit,
+    /// The ticket.
+    Mine,
+    /// This seat has claimed the code.
+    Busy(u32),
+    /// As many codes are claimed as the cache has room for.
+    NoRoom,
+    /// The payload is kept.
+    Published,
+    /// The claim is free again.
+    Returned,
     /// No head has the name.
     NoModel,
     /// There are only so many versions.
@@ -61,13 +83,19 @@ pub enum Answer {
 
 impl Answer {
     // the answer of a reply; none for want of memory
-    pub(crate) fn of(reply: &Reply) -> Option<Answer>
+    pub(crate) fn of<P>(reply: &Reply<P>) -> Option<Answer>
         ensures { option_map answer_in result ≡ answered reply.now }
     {
         match reply {
             Reply::At(version, _) => Some(Answer::At(*version)),
             Reply::Made(version, _) => Some(Answer::Made(*version)),
             Reply::Committed(version) => Some(Answer::Committed(*version)),
+            Reply::Hit(_) => Some(Answer::Hit),
+            Reply::Mine(_) => Some(Answer::Mine),
+            Reply::Busy(owner) => Some(Answer::Busy(*owner)),
+            Reply::NoRoom => Some(Answer::NoRoom),
+            Reply::Published => Some(Answer::Published),
+            Reply::Returned => Some(Answer::Returned),
             Reply::NoModel => Some(Answer::NoModel),
             Reply::NoVersion(count) => Some(Answer::NoVersion(*count)),
             Reply::NoParent => Some(Answer::NoParent),

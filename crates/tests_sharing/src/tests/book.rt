@@ -1,67 +1,108 @@
 //! Seats at one book.
+ghost use Rattle.cg_book.specs.Plain.{IsOfVersions};
+
 use crate::tests::texts::{self, model, name};
 use cg_book::{Act, Answer, Book, Entry, Event, Journal, Reply};
+use cg_cache::Ticket;
+use cg_curve::Curves;
 use cg_edit::EditFault;
+use cg_message::Message;
 use cg_versions::StartModels;
 use std::alloc::Global;
+use std::sync::Arc;
 use std::test::Fail;
 
 /// A book with the model `main`, which is one Sequence "s" of the undated events A and B.
-fn one_model(alloc: Global) -> Result<Book, Fail> {
+fn one_model(alloc: Global) -> Result<Book<Message>, Fail> {
     let tree = model(alloc, "Sequence(\"s\"){Date(\"A\");Date(\"B\");};")?;
     let mut models = StartModels::new(alloc);
     models.push(name(alloc, "main")?, tree)?;
-    Ok(Book::new(alloc, models)?)
+    let curves = Arc::new(alloc, Curves::new(alloc))?;
+    Ok(Book::new(alloc, models, 2, curves)?)
 }
 
-fn head(alloc: Global, book: &mut Book, seat: u32, model: &str) -> Result<Reply, Fail> {
+/// A reply in its plain form, and the number of the version that it hands out, with how many events its tree has.
+#[derive(Drop)]
+struct Told {
+    answer: Option<Answer>,
+    version: Option<(u32, u32)>,
+}
+
+fn told_by(reply: Reply<Message>) -> Told
+    requires { IsOfVersions reply }
+{
+    let version = match &reply {
+        Reply::At(number, tree) | Reply::Made(number, tree) => Some((*number, tree.events())),
+        _ => None,
+    };
+    Told {
+        answer: answer_of(reply),
+        version,
+    }
+}
+
+fn answer_of(reply: Reply<Message>) -> Option<Answer>
+    requires { IsOfVersions reply }
+{
+    match reply {
+        Reply::At(number, _) => Some(Answer::At(number)),
+        Reply::Made(number, _) => Some(Answer::Made(number)),
+        Reply::Committed(number) => Some(Answer::Committed(number)),
+        Reply::NoModel => Some(Answer::NoModel),
+        Reply::NoVersion(count) => Some(Answer::NoVersion(count)),
+        Reply::NoParent => Some(Answer::NoParent),
+        Reply::Refused(fault) => Some(Answer::Refused(fault)),
+        Reply::Moved(head) => Some(Answer::Moved(head)),
+        Reply::NoMemory => None,
+        Reply::Mine(ticket) => {
+            let Ticket { .. } = ticket;
+            unreachable!()
+        }
+        Reply::Hit(_) | Reply::Busy(_) | Reply::NoRoom => unreachable!(),
+        Reply::Published | Reply::Returned => unreachable!(),
+    }
+}
+
+fn head(alloc: Global, book: &mut Book<Message>, seat: u32, model: &str) -> Result<Told, Fail> {
     let event = Event::Head(name(alloc, model)?);
-    Ok(book.apply(alloc, seat, event))
+    Ok(told_by(book.apply(alloc, seat, event)))
 }
 
 fn change(
     alloc: Global,
-    book: &mut Book,
+    book: &mut Book<Message>,
     seat: u32,
     version: u32,
     line: &str,
-) -> Result<Reply, Fail> {
+) -> Result<Told, Fail> {
     let edit = texts::change(alloc, line)?;
     if version >= book.count() {
         return Err("no such version".into());
     }
-    Ok(book.apply(alloc, seat, Event::Change(version, edit)))
+    Ok(told_by(book.apply(alloc, seat, Event::Change(version, edit))))
 }
 
-fn undo(alloc: Global, book: &mut Book, seat: u32, version: u32) -> Result<Reply, Fail> {
+fn undo(alloc: Global, book: &mut Book<Message>, seat: u32, version: u32) -> Result<Told, Fail> {
     if version >= book.count() {
         return Err("no such version".into());
     }
-    Ok(book.apply(alloc, seat, Event::Undo(version)))
+    Ok(told_by(book.apply(alloc, seat, Event::Undo(version))))
 }
 
 fn commit(
     alloc: Global,
-    book: &mut Book,
+    book: &mut Book<Message>,
     seat: u32,
     model: &str,
     base: u32,
     version: u32,
-) -> Result<Reply, Fail> {
+) -> Result<Told, Fail> {
     let model = name(alloc, model)?;
     if base >= book.count() || version >= book.count() {
         return Err("no such version".into());
     }
-    Ok(book.apply(alloc, seat, Event::Commit(model, Some(base), version)))
-}
-
-/// The number of a version in a reply, and how many events its tree has.
-fn version_of(reply: &Reply) -> Option<(u32, u32)> {
-    match reply {
-        Reply::At(version, tree) => Some((*version, tree.events())),
-        Reply::Made(version, tree) => Some((*version, tree.events())),
-        _ => None,
-    }
+    let event = Event::Commit(model, Some(base), version);
+    Ok(told_by(book.apply(alloc, seat, event)))
 }
 
 /// What a seat asks. Each change is a line of a script.
@@ -73,26 +114,13 @@ enum Asked {
     Commit(&'static str, u32, u32),
 }
 
-fn ask(alloc: Global, book: &mut Book, seat: u32, asked: &Asked) -> Result<Reply, Fail> {
+fn ask(alloc: Global, book: &mut Book<Message>, seat: u32, asked: &Asked) -> Result<Told, Fail> {
     match asked {
         Asked::Head(model) => head(alloc, book, seat, model),
-        Asked::Take(version) => Ok(book.apply(alloc, seat, Event::Take(*version))),
+        Asked::Take(version) => Ok(told_by(book.apply(alloc, seat, Event::Take(*version)))),
         Asked::Undo(version) => undo(alloc, book, seat, *version),
         Asked::Change(version, line) => change(alloc, book, seat, *version, line),
         Asked::Commit(model, base, version) => commit(alloc, book, seat, model, *base, *version),
-    }
-}
-
-fn is_reply(reply: &Reply, answer: &Answer) -> bool {
-    match (reply, answer) {
-        (Reply::At(version, _), Answer::At(want)) => version == want,
-        (Reply::Made(version, _), Answer::Made(want)) => version == want,
-        (Reply::Committed(version), Answer::Committed(want)) => version == want,
-        (Reply::NoVersion(count), Answer::NoVersion(want)) => count == want,
-        (Reply::Refused(fault), Answer::Refused(want)) => fault == want,
-        (Reply::Moved(version), Answer::Moved(want)) => version == want,
-        (Reply::NoModel, Answer::NoModel) | (Reply::NoParent, Answer::NoParent) => true,
-        _ => false,
     }
 }
 
@@ -121,9 +149,9 @@ static TWO_SEATS: [(u32, Asked, Answer, Option<(u32, u32)>); 7] = [
 fn one_head_two_seats(rt: HostRuntime) -> Result<(), Fail> {
     let mut book = one_model(rt.alloc())?;
     for (seat, asked, answer, version) in &TWO_SEATS {
-        let reply = ask(rt.alloc(), &mut book, *seat, asked)?;
-        assert!(rt; is_reply(&reply, answer));
-        assert_eq!(rt; version_of(&reply), *version);
+        let told = ask(rt.alloc(), &mut book, *seat, asked)?;
+        assert_eq!(rt; told.answer, Some(*answer));
+        assert_eq!(rt; told.version, *version);
     }
     Ok(())
 }
@@ -144,8 +172,8 @@ static MOVES: [(&str, u32, Option<(u32, u32)>); 8] = [
 fn moves(rt: HostRuntime) -> Result<(), Fail> {
     let mut book = one_model(rt.alloc())?;
     for (line, version, want) in &MOVES {
-        let reply = change(rt.alloc(), &mut book, 1, *version, line)?;
-        assert_eq!(rt; version_of(&reply), *want, "{line} of {version}");
+        let told = change(rt.alloc(), &mut book, 1, *version, line)?;
+        assert_eq!(rt; told.version, *want, "{line} of {version}");
     }
     Ok(())
 }
@@ -167,11 +195,11 @@ static REFUSALS: [(Asked, Answer); 6] = [
 fn refusals(rt: HostRuntime) -> Result<(), Fail> {
     let mut book = one_model(rt.alloc())?;
     for (asked, answer) in &REFUSALS {
-        let reply = ask(rt.alloc(), &mut book, 3, asked)?;
-        assert!(rt; is_reply(&reply, answer));
+        let told = ask(rt.alloc(), &mut book, 3, asked)?;
+        assert_eq!(rt; told.answer, Some(*answer));
     }
     let taken = ask(rt.alloc(), &mut book, 3, &Asked::Take(0))?;
-    assert_eq!(rt; version_of(&taken), Some((0, 2)));
+    assert_eq!(rt; taken.version, Some((0, 2)));
     Ok(())
 }
 
