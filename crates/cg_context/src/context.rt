@@ -23,9 +23,9 @@ impl Model for Context {
 }
 
 impl Context {
-    // The context of the entries of its first `rows` rows: row by row from the oldest cell, each with rising `b`. All
-    // others are zero. Takes no memory.
-    pub(crate) fn of_rows(cells: usize, rows: usize, entries: Vec<Enc>) -> Context
+    /// The context of the entries of its first `rows` rows: row by row from the oldest cell, each with rising `b`. All
+    /// others are zero. Takes no memory.
+    pub fn of_rows(cells: usize, rows: usize, entries: Vec<Enc>) -> Context
         requires within { rows ≤ cells }
         requires few { cells < 2 ^ 33 }
         requires count { length entries.items ≡ start cells rows }
