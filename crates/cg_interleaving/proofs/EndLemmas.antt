@@ -7,11 +7,13 @@ use Rattle.std.proofs.lemmas.List.{length-map}
 use Rattle.cg_recipe.specs.Recipe.{recipe}
 use Rattle.cg_sharing.specs.Command.{Line}
 use Rattle.cg_sharing.specs.Versions.{State, StartModel, start_of}
-use Rattle.cg_sharing.specs.Journal.{Entry, state_after, IsLegal}
+use Rattle.cg_sharing.specs.Journal.{Entry, Shared, shared_of, IsLegal}
 use Rattle.cg_sharing.specs.Course.{Calibration, Place}
 use Rattle.cg_sharing.specs.Interleaving.{begun, begins, last_turns, some_stopped}
 use Rattle.cg_report.specs.Transcript.{transcript_of, transcripts_of}
-use Rattle.cg_book.specs.Plain.{Seen}
+use Rattle.cg_curve.specs.Curves.{NamedCurve}
+use Rattle.cg_book.specs.Plain.{shared_in}
+use Rattle.cg_session.specs.Port.{Seen}
 use Rattle.cg_session.specs.declared.session.Session.{Session}
 use Rattle.cg_session.specs.Session.{seat_of, script_of, is_stopped, IsIn}
 use Rattle.cg_interleaving.specs.declared.run.Run.{Run}
@@ -81,15 +83,15 @@ begin_places calibration start first (s ∷ sessions) going = (
   begin_places calibration start (first + 1) sessions (right_false (is_stopped s) (list_any is_stopped sessions) going),
 )
 
-pub begin_world : (calibration : Calibration) (models : List StartModel) (scripts : List (List Line)) (all : Sessions) → all.book ≡ record { start = start_of models; journal = [] } → map script_of all.list.items ≡ scripts → list_any is_stopped all.list.items ≡ false →
-    AreIn calibration (begun calibration models scripts) all
-begin_world calibration models scripts all is read going =
+pub begin_world : (calibration : Calibration) (models : List StartModel) (capacity : ℕ) (curves : List NamedCurve) (scripts : List (List Line)) (all : Sessions) → all.book ≡ record { start = shared_of models capacity; journal = []; origin = curves } →
+    map script_of all.list.items ≡ scripts → list_any is_stopped all.list.items ≡ false → AreIn calibration (begun calibration models capacity scripts) all
+begin_world calibration models capacity curves scripts all is read going =
     let start = start_of models in
     let places = begins calibration start 1 scripts in
     let L : List (List Line) → Type 0 = λ ls. HavePlaces calibration 1 start [] all.list.items (begins calibration start 1 ls) in
-    let B : Seen → Type 0 = λ book. HavePlaces calibration 1 book.start book.journal all.list.items places in
+    let B : Seen → Type 0 = λ book. HavePlaces calibration 1 book.start.state book.journal all.list.items places in
     record {
-      state = ap (λ (book : Seen). state_after book.start book.journal) (sym is);
+      shared = ap (λ (book : Seen). shared_in book) (sym is);
       journal = ap (λ (book : Seen). book.journal) (sym is);
       places = subst B (sym is) (subst L read (begin_places calibration start 1 all.list.items going));
     }
@@ -102,27 +104,27 @@ pub record Tells (all : Sessions) (run : Run) : Type 0 where
   pub written : AreTexts all.list.items (written_in run)
 
 -- It is that of these turns.
-pub is_run : (calibration : Calibration) (models : List StartModel) (scripts : List (List Line)) (turns : List ℕ) (met all : Sessions) (run : Run) → CanGoOn calibration all → all.book.start ≡ start_of models → map script_of all.list.items ≡ scripts →
-    (taken : HaveTaken calibration turns (begun calibration models scripts) met) → HaveTaken calibration (last_turns 1 taken.now.places) taken.now all → ((place : ℕ) → place < length all.list.items → HasEndAt calibration place all) → Tells all run → IsRunOf calibration models scripts turns run
-is_run calibration models scripts turns met all run can starts read taken out over tells =
+pub is_run : (calibration : Calibration) (models : List StartModel) (capacity : ℕ) (scripts : List (List Line)) (turns : List ℕ) (met all : Sessions) (run : Run) → CanGoOn calibration all → all.book.start ≡ shared_of models capacity → map script_of all.list.items ≡ scripts →
+    (taken : HaveTaken calibration turns (begun calibration models capacity scripts) met) → HaveTaken calibration (last_turns 1 taken.now.places) taken.now all → ((place : ℕ) → place < length all.list.items → HasEndAt calibration place all) → Tells all run → IsRunOf calibration models capacity scripts turns run
+is_run calibration models capacity scripts turns met all run can starts read taken out over tells =
     let world = out.now in
     let xs = all.book.journal in
-    let shown = all_shown calibration 1 all.book.start xs all.list.items world.places out.here.places
+    let shown = all_shown calibration 1 all.book.start.state xs all.list.items world.places out.here.places
     (λ i s at.
-    let P : ℕ → Type 0 = λ n. HasEnd calibration n all.book.start xs s in
+    let P : ℕ → Type 0 = λ n. HasEnd calibration n all.book.start.state xs s in
     let next : suc i ≡ 1 + i = omega arith in
     subst P next (over i (slice_get_within all.list.items i s at) s at)) in
     let S : State → Type 0 = λ b. AreOver calibration 1 b (map script_of all.list.items) xs world.places in
     let L : List (List Line) → Type 0 = λ ls. AreOver calibration 1 (start_of models) ls xs world.places in
     let J : List Entry → Type 0 = λ es. AreOver calibration 1 (start_of models) scripts es world.places in
-    let B : State → Type 0 = λ b. IsLegal b run.journal in
-    let K : List Entry → Type 0 = λ es. IsLegal (start_of models) es in
+    let B : Shared → Type 0 = λ b. IsLegal b run.journal in
+    let K : List Entry → Type 0 = λ es. IsLegal (shared_of models capacity) es in
     let journal = tells.journal ∙ sym out.here.journal in
     record {
       world = world;
       interleaved = record { met = taken.now; taken = taken.taken; run_out = out.taken };
       legal = subst K journal (subst B starts tells.legal);
-      over = subst J (sym out.here.journal) (subst L read (subst S starts shown.0));
+      over = subst J (sym out.here.journal) (subst L read (subst S (ap (λ (b : Shared). b.state) starts) shown.0));
       journal = journal;
       written = texts_shown calibration all.book 1 all.list.items world.places (written_in run) can.at shown.1 tells.written;
       stopped = tells.stopped ∙ can.stopped ∙ stopped_shown all.list.items world.places shown.1;

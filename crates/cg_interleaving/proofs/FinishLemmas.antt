@@ -46,7 +46,7 @@ nobody places (suc i) past = slice_get_past places i (omega (arith, past (omega 
 -- and so is that of a number which is no session's: it does nothing.
 pub passed : (calibration : Calibration) (world : World) (all : Sessions) (number : ℕ) → (1 ≤ number → length all.list.items + 1 ≤ number) → AreIn calibration world all → HaveTaken calibration (number ∷ []) world all
 passed calibration world all number past here =
-    let count = count_places calibration 1 all.book.start all.book.journal all.list.items world.places here.places in
+    let count = count_places calibration 1 all.book.start.state all.book.journal all.list.items world.places here.places in
     let none = nobody world.places number (λ some. omega (arith, past some, count)) in
     record { now = world; taken = (world, inl (sym (turn_passes calibration number world none)), refl); here = here }
 
@@ -98,10 +98,10 @@ finished calibration place world mid all has last within over =
     let number = suc place in
     let now = last.now in
     let s = session_at all.list.items place within in
-    let got = place_get calibration 1 number all.book.start all.book.journal all.list.items now.places place s.0 (omega arith) s.1 last.here.places in
-    let end = shown_at calibration number all.book.start all.book.journal s.0 got.place got.has (over s.0 s.1) in
+    let got = place_get calibration 1 number all.book.start.state all.book.journal all.list.items now.places place s.0 (omega arith) s.1 last.here.places in
+    let end = shown_at calibration number all.book.start.state all.book.journal s.0 got.place got.has (over s.0 s.1) in
     let rest = lines_at place world - has.count in
-    let rests = turns_rest calibration number rest now got.place got.here (over_left calibration number all.book.start s.0 all.book.journal got.place end.1) in
+    let rests = turns_rest calibration number rest now got.place got.here (over_left calibration number all.book.start.state s.0 all.book.journal got.place end.1) in
     let first = AreTurns-append calibration (replicate has.count number) (number ∷ []) world has.now now has.taken last.taken in
     let both = AreTurns-append calibration (replicate has.count number ++ number ∷ []) (replicate rest number) world now now first rests in
     let count : (replicate has.count number ++ number ∷ []) ++ replicate rest number ≡ replicate (lines_at place world + 1) number =
@@ -120,7 +120,7 @@ pub out_more : (calibration : Calibration) (place : ℕ) (world : World) (old ne
 out_more calibration place world old new out within has =
     let number = suc place in
     let s = session_at old.list.items place within in
-    let got = place_get calibration 1 number old.book.start old.book.journal old.list.items out.now.places place s.0 (omega arith) s.1 out.here.places in
+    let got = place_get calibration 1 number old.book.start.state old.book.journal old.list.items out.now.places place s.0 (omega arith) s.1 out.here.places in
     let split = drop-get out.now.places place got.place got.here in
     let behind = turns_behind calibration number (lines_at place out.now + 1) out.now has.now has.taken in
     let lines : lines_at place out.now ≡ length got.place.left = ap (λ o. lines_of o) got.here in
@@ -148,7 +148,7 @@ no_more (suc n) (x ∷ xs) few = no_more n xs (omega arith)
 -- and at last all.
 pub all_out : (calibration : Calibration) (place : ℕ) (world : World) (all : Sessions) → HaveRunOut calibration place world all → length all.list.items ≤ place → HaveTaken calibration (last_turns 1 world.places) world all
 all_out calibration place world all out past =
-    let count = count_places calibration 1 all.book.start all.book.journal all.list.items out.now.places out.here.places in
+    let count = count_places calibration 1 all.book.start.state all.book.journal all.list.items out.now.places out.here.places in
     let none = no_more place out.now.places (omega (arith, count)) in
     let R : List Place → Type 0 = λ ps. AreTurns calibration (last_turns (suc place) ps) out.now out.now in
     record { now = out.now; taken = out.later out.now (subst R (sym none) refl); here = out.here }

@@ -8,13 +8,16 @@ use Rattle.std.proofs.lemmas.Option.{slice_get-get_or}
 use Rattle.std.proofs.lemmas.Bool.{false≢true, true≢false}
 use Rattle.cg_sharing.specs.Command.{Line}
 use Rattle.cg_sharing.specs.Versions.{State}
-use Rattle.cg_sharing.specs.Journal.{Entry, state_after, IsLegal}
+use Rattle.cg_sharing.specs.Journal.{Entry, Shared, shared_after, IsLegal}
 use Rattle.cg_sharing.specs.Course.{Calibration, Place, settled, AreOthers, IsRunning}
 use Rattle.cg_sharing.specs.Interleaving.{World, turn}
 use Rattle.cg_sharing.proofs.JournalLemmas.{IsClosed}
 use Rattle.cg_sharing.proofs.CourseLemmas.{running_knows}
 use Rattle.cg_sharing.proofs.TurnLemmas.{get-set_same, get-set_other, turn_rests}
-use Rattle.cg_book.specs.Plain.{Seen, state_of}
+use Rattle.cg_book.specs.Plain.{state_of}
+use Rattle.cg_curve.specs.Curves.{NamedCurve}
+use Rattle.cg_session.specs.Calibration.{calibration_of}
+use Rattle.cg_session.specs.Port.{Seen}
 use Rattle.cg_session.specs.declared.session.Session.{Session}
 use Rattle.cg_session.specs.declared.session.Progress.{Progress}
 use Rattle.cg_session.specs.declared.session.Progress.TheVariants.{Moved, Ended, Stopped}
@@ -22,7 +25,7 @@ use Rattle.cg_session.specs.Session.{seat_of, script_of, left_of, is_stopped, Is
 use Rattle.cg_session.proofs.AdvanceLemmas.{closed_start}
 use Rattle.cg_interleaving.specs.declared.sessions.Sessions.{Sessions}
 use Rattle.cg_interleaving.specs.Taking.{AreAt, CanGoOn, HasPlace, HavePlaces, AreIn, lines_of, HasTurned, HasEnd, HasEndAt, left_in, left_at, Advances}
-use Rattle.cg_interleaving.proofs.KeptLemmas.{stopped_is, stopped_left, place_later, end_later, kept_at, runs_on}
+use Rattle.cg_interleaving.proofs.KeptLemmas.{same_state, stopped_is, stopped_left, place_later, end_later, kept_at, runs_on}
 use Rattle.cg_interleaving.proofs.WorldLemmas.{world_at, same_world, same_place, IsNext, turn_makes, turn_shortens}
 use Rattle.cg_interleaving.proofs.ListLemmas.{set-same, map-set_at, list_any-set}
 
@@ -73,14 +76,14 @@ at_get calibration seen first (x ∷ xs) (suc i) s here at =
     (omega (arith, there.0), there.1)
 
 -- the sessions behind it
-at_behind : (calibration : Calibration) (seen new : Seen) (seat first : ℕ) (sessions : List Session) → IsClosed seen.start → Adds seen new seat → seat < first → AreAt calibration seen first sessions → AreAt calibration new first sessions
+at_behind : (calibration : Calibration) (seen new : Seen) (seat first : ℕ) (sessions : List Session) → IsClosed seen.start.state → Adds seen new seat → seat < first → AreAt calibration seen first sessions → AreAt calibration new first sessions
 at_behind calibration seen new seat first [] closed adds less at = tt
 at_behind calibration seen new seat first (x ∷ xs) closed adds less at =
     let ne : seat_of x ≢ seat = omega (arith, at.0) in
     (at.0, kept_at calibration seen new x adds.more closed at.1 (adds.theirs (seat_of x) ne) adds.start adds.journal adds.legal, at_behind calibration seen new seat (first + 1) xs closed adds (omega arith) at.2)
 
 -- and all of them, once it advanced
-at_set : (calibration : Calibration) (seen new : Seen) (seat first : ℕ) (sessions : List Session) (i : ℕ) (t : Session) → IsClosed seen.start → Adds seen new seat → seat ≡ first + i → seat_of t ≡ seat → IsAt calibration new t →
+at_set : (calibration : Calibration) (seen new : Seen) (seat first : ℕ) (sessions : List Session) (i : ℕ) (t : Session) → IsClosed seen.start.state → Adds seen new seat → seat ≡ first + i → seat_of t ≡ seat → IsAt calibration new t →
     AreAt calibration seen first sessions → AreAt calibration new first (slice_set sessions i t)
 at_set calibration seen new seat first [] i t closed adds here own stands at = tt
 at_set calibration seen new seat first (x ∷ xs) zero t closed adds here own stands at = (omega (arith, own, here), stands, at_behind calibration seen new seat (first + 1) xs closed adds (omega (arith, here)) at.2)
@@ -141,7 +144,7 @@ stops Stopped = true
 stops_is : (calibration : Calibration) (progress : Progress) (alone : Type 0) (seen new : Seen) (s t : Session) → Came calibration progress alone seen new s t → is_stopped t ≡ stops progress
 stops_is calibration Moved alone seen new s t came = came.going
 stops_is calibration Ended alone seen new s t came = came.here.stopped ∙ came.ended.1
-stops_is calibration Stopped alone seen new s t came = came.here.stopped ∙ stopped_is calibration t.number new.start t.script new.journal came.place came.stopped
+stops_is calibration Stopped alone seen new s t came = came.here.stopped ∙ stopped_is calibration t.number new.start.state t.script new.journal came.place came.stopped
 
 pub or_false : (b : Bool) → (b || false) ≡ b
 or_false true = refl
@@ -206,22 +209,22 @@ place-as calibration k l start begin xs ys s place e1 e2 e3 has =
     subst P3 e3 (subst P2 e2 (subst P1 e1 has))
 
 -- the world once the session has a new place
-new_world : (calibration : Calibration) (i : ℕ) (progress : Progress) (before after : Sessions) (s t : Session) (can : CanGoOn calibration before) (step : IsAdvance calibration i progress before after s t) (world : World) (p : Place) → AreIn calibration world before → HasPlace calibration (suc i) after.book.start after.book.journal t p →
+new_world : (calibration : Calibration) (i : ℕ) (progress : Progress) (before after : Sessions) (s t : Session) (can : CanGoOn calibration before) (step : IsAdvance calibration i progress before after s t) (world : World) (p : Place) → AreIn calibration world before → HasPlace calibration (suc i) after.book.start.state after.book.journal t p →
     AreIn calibration (world_at before.book.start (before.book.journal ++ (added_by calibration i progress before after s t can step).more) (slice_set world.places i p)) after
 new_world calibration i progress before after s t can step world p here has =
     let more = added_by calibration i progress before after s t can step in
-    let start = before.book.start in
+    let start = before.book.start.state in
     let xs = before.book.journal ++ more.more in
     let places = slice_set world.places i p in
     let set = places_set calibration (suc i) 1 start before.book.journal more.more before.list.items world.places i t p (omega arith) more.theirs
-    (place-as calibration (suc i) (suc i) after.book.start start after.book.journal xs t p refl more.start more.journal has) here.places in
+    (place-as calibration (suc i) (suc i) after.book.start.state start after.book.journal xs t p refl (same_state more.start) more.journal has) here.places in
     let B : State → Type 0 = λ b. HavePlaces calibration 1 b xs after.list.items places in
-    let J : List Entry → Type 0 = λ es. HavePlaces calibration 1 after.book.start es after.list.items places in
+    let J : List Entry → Type 0 = λ es. HavePlaces calibration 1 after.book.start.state es after.list.items places in
     let L : List Session → Type 0 = λ ss. HavePlaces calibration 1 start xs ss places in
     record {
-      state = ap₂ (λ (b : State) (es : List Entry). state_after b es) (sym more.start) (sym more.journal);
+      shared = ap₂ (λ (b : Shared) (es : List Entry). shared_after b es) (sym more.start) (sym more.journal);
       journal = sym more.journal;
-      places = subst J (sym more.journal) (subst B (sym more.start) (subst L (sym step.list) set));
+      places = subst J (sym more.journal) (subst B (sym (same_state more.start)) (subst L (sym step.list) set));
     }
 
 running_of : (calibration : Calibration) (number : ℕ) (start : State) (xs : List Entry) (s : Session) (place : Place) → is_stopped s ≡ false → HasPlace calibration number start xs s place → IsRunning calibration number start (script_of s) xs place
@@ -239,7 +242,7 @@ script_place calibration number start xs s t place script going run = let P : Li
 turned_moved : (calibration : Calibration) (i : ℕ) (before after : Sessions) (s t : Session) → CanGoOn calibration before → IsAdvance calibration i Moved before after s t → (world : World) → AreIn calibration world before → HasTurned calibration i true world after
 turned_moved calibration i before after s t can step world here =
     let own = was calibration i Moved before after s t can step in
-    let start = before.book.start in
+    let start = before.book.start.state in
     let xs = before.book.journal in
     let more = added_by calibration i Moved before after s t can step in
     let entry : Entry = record { seat = seat_of s; act = step.came.act; answer = step.came.answer } in
@@ -249,21 +252,21 @@ turned_moved calibration i before after s t can step world here =
     let ran = running_of calibration (suc i) start xs s got.place going got.has in
     let p = settled calibration (state_of after.book) (drop t.done t.script) step.at.stands.0 in
     let runs_now = runs_on calibration after.book t step.came.going step.at in
-    let runs = running-as calibration (seat_of t) (suc i) after.book.start start (script_of t) (script_of s) after.book.journal (xs ++ entry ∷ []) p (step.number ∙ own.0) more.start step.script more.journal runs_now in
-    let L : State → Type 0 = λ b. IsLegal b after.book.journal in
-    let J : List Entry → Type 0 = λ es. IsLegal start es in
-    let next : IsNext calibration (suc i) start (script_of s) xs entry got.place p = record { own = own.0; ran = ran; runs = runs; legal = subst J more.journal (subst L more.start step.at.legal) } in
-    let now = world_at start (xs ++ entry ∷ []) (slice_set world.places i p) in
+    let runs = running-as calibration (seat_of t) (suc i) after.book.start.state start (script_of t) (script_of s) after.book.journal (xs ++ entry ∷ []) p (step.number ∙ own.0) (same_state more.start) step.script more.journal runs_now in
+    let L : Shared → Type 0 = λ b. IsLegal b after.book.journal in
+    let J : List Entry → Type 0 = λ es. IsLegal before.book.start es in
+    let next : IsNext calibration (suc i) before.book.start (script_of s) xs entry got.place p = record { own = own.0; ran = ran; runs = runs; legal = subst J more.journal (subst L more.start step.at.legal) } in
+    let now = world_at before.book.start (xs ++ entry ∷ []) (slice_set world.places i p) in
     let made : turn calibration (suc i) world ≡ now =
-    ap (λ w. turn calibration (suc i) w) (sym (same_world world start xs xs world.places here.state here.journal refl refl)) ∙ turn_makes calibration i start (script_of s) xs world.places entry got.place p got.here next in
-    let N : ℕ → Type 0 = λ n. IsRunning calibration n after.book.start (script_of t) after.book.journal p in
+    ap (λ w. turn calibration (suc i) w) (sym (same_world world before.book.start xs xs world.places here.shared here.journal refl refl)) ∙ turn_makes calibration i before.book.start (script_of s) xs world.places entry got.place p got.here next in
+    let N : ℕ → Type 0 = λ n. IsRunning calibration n after.book.start.state (script_of t) after.book.journal p in
     record {
       now = now;
       taken = (now, inl (sym made), refl);
       here = new_world calibration i Moved before after s t can step world p here (inl (step.came.going, subst N (step.number ∙ own.0) runs_now));
       fewer = λ _. omega (
         arith,
-        turn_shortens calibration (suc i) start (script_of s) xs entry got.place p (closed_start calibration before.book s own.1) own.1.ready next,
+        turn_shortens calibration (suc i) before.book.start (script_of s) xs entry got.place p (closed_start calibration before.book s own.1) own.1.ready next,
         ap (λ o. lines_of o) got.here,
         ap (λ o. lines_of o) (get-set_same world.places i got.place p got.here),
       );
@@ -271,12 +274,12 @@ turned_moved calibration i before after s t can step world here =
 
 -- It did nothing: neither does its turn.
 rested : (calibration : Calibration) (i : ℕ) (progress : Progress) (before after : Sessions) (s t : Session) (can : CanGoOn calibration before) (step : IsAdvance calibration i progress before after s t) (world : World) (q : Place) → AreIn calibration world before → slice_get world.places i ≡ Some q → q.left ≡ [] →
-    (added_by calibration i progress before after s t can step).more ≡ [] → HasPlace calibration (suc i) after.book.start after.book.journal t q → HasTurned calibration i false world after
+    (added_by calibration i progress before after s t can step).more ≡ [] → HasPlace calibration (suc i) after.book.start.state after.book.journal t q → HasTurned calibration i false world after
 rested calibration i progress before after s t can step world q here at done none has =
     let xs = before.book.journal in
     let more = (added_by calibration i progress before after s t can step).more in
     let now = world_at before.book.start (xs ++ more) (slice_set world.places i q) in
-    let same : now ≡ world = same_world world before.book.start xs (xs ++ more) (slice_set world.places i q) here.state here.journal (ap (λ es. xs ++ es) none ∙ append-nil xs) (set-same world.places i q at) in
+    let same : now ≡ world = same_world world before.book.start xs (xs ++ more) (slice_set world.places i q) here.shared here.journal (ap (λ es. xs ++ es) none ∙ append-nil xs) (set-same world.places i q at) in
     record {
       now = now;
       taken = (now, inl (same ∙ sym (turn_rests calibration (suc i) world q at done)), refl);
@@ -287,44 +290,44 @@ rested calibration i progress before after s t can step world q here at done non
 turned_ended : (calibration : Calibration) (i : ℕ) (before after : Sessions) (s t : Session) → CanGoOn calibration before → IsAdvance calibration i Ended before after s t → (world : World) → AreIn calibration world before → HasTurned calibration i false world after
 turned_ended calibration i before after s t can step world here =
     let own = was calibration i Ended before after s t can step in
-    let start = before.book.start in
+    let start = before.book.start.state in
     let xs = before.book.journal in
     let got = place_get calibration 1 (suc i) start xs before.list.items world.places i s (omega arith) step.here here.places in
     let going : is_stopped s ≡ false =
     elim (is_stopped s) as (λ b. is_stopped s ≡ b → b ≡ false) [ true ↦ λ is. absurd (let never : Ended ≡ Stopped = (step.repeats is).0 in cc) | false ↦ λ _. refl ] refl in
     let ran = running_of calibration (suc i) start xs s got.place going got.has in
-    let begins : after.book.start ≡ start = ap (λ (w : Seen). w.start) step.came.same in
+    let begins : after.book.start.state ≡ start = ap (λ (w : Seen). w.start.state) step.came.same in
     let journal : after.book.journal ≡ xs = ap (λ (w : Seen). w.journal) step.came.same in
-    let runs = running-as calibration (seat_of t) (suc i) after.book.start start (script_of t) (script_of s) after.book.journal xs step.came.place (step.number ∙ own.0) begins step.script journal step.came.running in
+    let runs = running-as calibration (seat_of t) (suc i) after.book.start.state start (script_of t) (script_of s) after.book.journal xs step.came.place (step.number ∙ own.0) begins step.script journal step.came.running in
     let same = same_place calibration (suc i) start (script_of s) xs got.place step.came.place ran runs in
     let stays = stops_is calibration Ended (Unit {0}) before.book after.book s t step.came in
     rested calibration i Ended before after s t can step world got.place here got.here (ap (λ (p : Place). p.left) same ∙ step.came.ended.0) refl
-    (place-as calibration (suc i) (suc i) start after.book.start xs after.book.journal t got.place refl (sym begins) (sym journal) (script_place calibration (suc i) start xs s t got.place step.script stays ran))
+    (place-as calibration (suc i) (suc i) start after.book.start.state xs after.book.journal t got.place refl (sym begins) (sym journal) (script_place calibration (suc i) start xs s t got.place step.script stays ran))
 
 -- Want of memory had stopped it before,
 turned_again : (calibration : Calibration) (i : ℕ) (before after : Sessions) (s t : Session) → CanGoOn calibration before → IsAdvance calibration i Stopped before after s t → (world : World) → AreIn calibration world before → is_stopped s ≡ true → HasTurned calibration i false world after
 turned_again calibration i before after s t can step world here is =
-    let start = before.book.start in
+    let start = before.book.start.state in
     let xs = before.book.journal in
     let more = added_by calibration i Stopped before after s t can step in
     let got = place_get calibration 1 (suc i) start xs before.list.items world.places i s (omega arith) step.here here.places in
     let T : Session → Type 0 = λ x. HasPlace calibration (suc i) start xs x got.place in
     rested calibration i Stopped before after s t can step world got.place here got.here (stopped_of calibration (suc i) start xs s got.place is got.has) refl
-    (place-as calibration (suc i) (suc i) start after.book.start xs after.book.journal t got.place refl (sym more.start) (sym (more.journal ∙ append-nil xs)) (subst T (sym (step.repeats is).1) got.has))
+    (place-as calibration (suc i) (suc i) start after.book.start.state xs after.book.journal t got.place refl (sym (same_state more.start)) (sym (more.journal ∙ append-nil xs)) (subst T (sym (step.repeats is).1) got.has))
 
 -- or it did now.
 turned_stopped : (calibration : Calibration) (i : ℕ) (before after : Sessions) (s t : Session) → CanGoOn calibration before → IsAdvance calibration i Stopped before after s t → (world : World) → AreIn calibration world before → is_stopped s ≡ false → HasTurned calibration i false world after
 turned_stopped calibration i before after s t can step world here is =
     let own = was calibration i Stopped before after s t can step in
-    let start = before.book.start in
+    let start = before.book.start.state in
     let xs = before.book.journal in
     let got = place_get calibration 1 (suc i) start xs before.list.items world.places i s (omega arith) step.here here.places in
     let ran = running_of calibration (suc i) start xs s got.place is got.has in
-    let known = running_knows calibration (suc i) start (script_of s) xs got.place (closed_start calibration before.book s own.1) own.1.ready own.1.legal ran in
+    let known = running_knows calibration (suc i) before.book.start (script_of s) xs got.place (closed_start calibration before.book s own.1) own.1.ready own.1.legal ran in
     let p = step.came.place in
-    let now = world_at start (xs ++ []) (slice_set world.places i p) in
+    let now = world_at before.book.start (xs ++ []) (slice_set world.places i p) in
     let stays = stops_is calibration Stopped (Unit {0}) before.book after.book s t step.came in
-    let P : ℕ → Type 0 = λ n. HasPlace calibration n after.book.start after.book.journal t p in
+    let P : ℕ → Type 0 = λ n. HasPlace calibration n after.book.start.state after.book.journal t p in
     record {
       now = now;
       taken = (
@@ -334,9 +337,9 @@ turned_stopped calibration i before after s t can step world here is =
           after = p;
           here = got.here;
           going = known.0.going;
-          none = stopped_left calibration t.number after.book.start t.script after.book.journal p step.came.stopped;
-          stopped = stopped_is calibration t.number after.book.start t.script after.book.journal p step.came.stopped;
-          same = same_world (record world { places = slice_set world.places i p }) start xs (xs ++ []) (slice_set world.places i p) here.state here.journal (append-nil xs) refl;
+          none = stopped_left calibration t.number after.book.start.state t.script after.book.journal p step.came.stopped;
+          stopped = stopped_is calibration t.number after.book.start.state t.script after.book.journal p step.came.stopped;
+          same = same_world (record world { places = slice_set world.places i p }) before.book.start xs (xs ++ []) (slice_set world.places i p) here.shared here.journal (append-nil xs) refl;
         }),
         refl,
       );
@@ -372,11 +375,11 @@ end_others : (calibration : Calibration) (i : ℕ) (progress : Progress) (before
 end_others calibration i progress before after s t other can step ne over = λ session at.
     let more = added_by calibration i progress before after s t can step in
     let there = sym (ap (λ ss. slice_get ss other) step.list ∙ get-set_other before.list.items i other t ne) ∙ at in
-    end-as calibration (suc other) (suc other) before.book.start after.book.start (before.book.journal ++ more.more) after.book.journal session refl (sym more.start) (sym more.journal)
-    (end_later calibration (suc other) before.book.start before.book.journal more.more session (more.theirs (suc other) (omega (arith, ne))) (over session there))
+    end-as calibration (suc other) (suc other) before.book.start.state after.book.start.state (before.book.journal ++ more.more) after.book.journal session refl (sym (same_state more.start)) (sym more.journal)
+    (end_later calibration (suc other) before.book.start.state before.book.journal more.more session (more.theirs (suc other) (omega (arith, ne))) (over session there))
 
 -- and its own where it made no event.
-end_now : (calibration : Calibration) (progress : Progress) (alone : Type 0) (seen new : Seen) (s t : Session) → moves progress ≡ false → Came calibration progress alone seen new s t → HasEnd calibration (seat_of t) new.start new.journal t
+end_now : (calibration : Calibration) (progress : Progress) (alone : Type 0) (seen new : Seen) (s t : Session) → moves progress ≡ false → Came calibration progress alone seen new s t → HasEnd calibration (seat_of t) new.start.state new.journal t
 end_now calibration Moved alone seen new s t none came = absurd (true≢false none)
 end_now calibration Ended alone seen new s t none came = inr (came.place, came.here, came.running, came.ended)
 end_now calibration Stopped alone seen new s t none came = inl (stops_is calibration Stopped alone seen new s t came)
@@ -388,8 +391,8 @@ end_own : (calibration : Calibration) (i : ℕ) (progress : Progress) (before af
 end_own calibration i progress before after s t can step none = λ session at.
     let own = was calibration i progress before after s t can step in
     let there : Some t ≡ Some session = sym (ap (λ ss. slice_get ss i) step.list ∙ get-set_same before.list.items i s t step.here) ∙ at in
-    let P : Session → Type 0 = λ x. HasEnd calibration (suc i) after.book.start after.book.journal x in
-    subst P (same_some t session there) (end-as calibration (seat_of t) (suc i) after.book.start after.book.start after.book.journal after.book.journal t (step.number ∙ own.0) refl refl
+    let P : Session → Type 0 = λ x. HasEnd calibration (suc i) after.book.start.state after.book.journal x in
+    subst P (same_some t session there) (end-as calibration (seat_of t) (suc i) after.book.start.state after.book.start.state after.book.journal after.book.journal t (step.number ∙ own.0) refl refl
     (end_now calibration progress (Unit {0}) before.book after.book s t none step.came))
 
 fewer_now : (calibration : Calibration) (progress : Progress) (alone : Type 0) (seen new : Seen) (s t : Session) → moves progress ≡ true → Came calibration progress alone seen new s t → left_of t < left_of s
@@ -414,6 +417,12 @@ advanced_all calibration i progress before after s t can step = record {
   over = λ none. end_own calibration i progress before after s t can step none;
   fewer = λ some. fewer_left calibration i progress before after s t step some;
 }
+
+-- The same, where the curves are told by other words.
+pub advanced_by : (cs ds : List NamedCurve) (i : ℕ) (progress : Progress) (before after : Sessions) (s t : Session) → cs ≡ ds → CanGoOn (calibration_of ds) before → IsAdvance (calibration_of cs) i progress before after s t → Advances (calibration_of ds) i (moves progress) before after
+advanced_by cs ds i progress before after s t same can step =
+    let A : List NamedCurve → Type 0 = λ curves. IsAdvance (calibration_of curves) i progress before after s t in
+    advanced_all (calibration_of ds) i progress before after s t can (subst A same step)
 
 -- what a look at a place gives
 pub seen_at : (sessions : List Session) (i : ℕ) (s : Session) → i < length sessions → s ≡ get_or sessions i s → slice_get sessions i ≡ Some s

@@ -3,7 +3,7 @@ use Rattle.std.specs.Prelude.{◌≡◌, ℕ, ◌+◌, ◌⊎◌, List, [], ◌�
 use Rattle.cg_recipe.specs.Recipe.{recipe}
 use Rattle.cg_sharing.specs.Command.{Line}
 use Rattle.cg_sharing.specs.Versions.{State, StartModel, start_of}
-use Rattle.cg_sharing.specs.Journal.{Entry, IsLegal}
+use Rattle.cg_sharing.specs.Journal.{Entry, shared_of, IsLegal}
 use Rattle.cg_sharing.specs.Course.{Calibration, Place, IsRunning, IsEnded, IsStopped}
 use Rattle.cg_sharing.specs.Interleaving.{World, IsInterleaving, some_stopped}
 use Rattle.cg_report.specs.Transcript.{transcripts_of}
@@ -31,10 +31,11 @@ AreOver calibration session start (script ∷ scripts) entries (place ∷ places
 -- The turns lead to a world with a legal journal, in which each session's course is over. The journal and the
 -- transcripts of the run are those of this world, and it is told whether a session was stopped in it.
 pub record IsRunOf
-    (calibration : Calibration) (models : List StartModel) (scripts : List (List Line)) (turns : List ℕ) (run : Run) : Type 0 where
+    (calibration : Calibration) (models : List StartModel) (capacity : ℕ) (scripts : List (List Line)) (turns : List ℕ)
+    (run : Run) : Type 0 where
   pub world : World
-  pub interleaved : IsInterleaving calibration models scripts turns world
-  pub legal : IsLegal (start_of models) world.journal
+  pub interleaved : IsInterleaving calibration models capacity scripts turns world
+  pub legal : IsLegal (shared_of models capacity) world.journal
   pub over : AreOver calibration 1 (start_of models) scripts world.journal world.places
   pub journal : run.journal ≡ world.journal
   pub written : written_in run ≡ transcripts_of recipe 1 world.places

@@ -4,10 +4,11 @@ use Rattle.std.specs.List.{list_any}
 use Rattle.cg_recipe.specs.Recipe.{recipe}
 use Rattle.cg_report.specs.Transcript.{transcript_of}
 use Rattle.cg_sharing.specs.Versions.{State}
-use Rattle.cg_sharing.specs.Journal.{Entry, state_after}
+use Rattle.cg_sharing.specs.Journal.{Entry}
 use Rattle.cg_sharing.specs.Course.{Calibration, Place, IsRunning, IsEnded, IsStopped}
 use Rattle.cg_sharing.specs.Interleaving.{World, AreTurns, last_turns}
-use Rattle.cg_book.specs.Plain.{Seen}
+use Rattle.cg_book.specs.Plain.{shared_in}
+use Rattle.cg_session.specs.Port.{Seen}
 use Rattle.cg_session.specs.declared.session.Session.{Session}
 use Rattle.cg_session.specs.Session.{seat_of, script_of, left_of, is_stopped, IsIn, IsAt}
 use Rattle.cg_interleaving.specs.declared.sessions.Sessions.{Sessions}
@@ -42,9 +43,9 @@ HavePlaces calibration number start entries (session ∷ sessions) (place ∷ pl
 
 -- The world is that of the sessions: its journal is the book's, and each session has its place there.
 pub record AreIn (calibration : Calibration) (world : World) (all : Sessions) : Type 0 where
-  pub state : world.state ≡ state_after all.book.start all.book.journal
+  pub shared : world.shared ≡ shared_in all.book
   pub journal : world.journal ≡ all.book.journal
-  pub places : HavePlaces calibration 1 all.book.start all.book.journal all.list.items world.places
+  pub places : HavePlaces calibration 1 all.book.start.state all.book.journal all.list.items world.places
 
 -- The sessions of this world have taken these turns since.
 pub record HaveTaken (calibration : Calibration) (turns : List ℕ) (world : World) (all : Sessions) : Type 0 where
@@ -94,7 +95,7 @@ HasEnd calibration number start entries session =
 abbrev pub HasEndAt : Calibration → ℕ → Sessions → Type 0
 HasEndAt calibration place all =
     (session : Session) → slice_get all.list.items place ≡ Some session
-    → HasEnd calibration (suc place) all.book.start all.book.journal session
+    → HasEnd calibration (suc place) all.book.start.state all.book.journal session
 
 -- the lines that the session at this place has not done
 abbrev pub left_in : Option Session → ℕ

@@ -1,4 +1,5 @@
 ghost use Rattle.std.specs.Prelude.{◌≤◌, length, All, IfOk};
+ghost use Rattle.std.specs.Arc.{arc_value};
 ghost use Rattle.cg_sharing.specs.Course.{AreFit};
 ghost use Rattle.cg_session.specs.Calibration.{calibration_of};
 ghost use Rattle.cg_interleaving.specs.Run.{IsRunOf};
@@ -11,6 +12,7 @@ use cg_script::Script;
 use cg_table::Steps;
 use cg_versions::StartModels;
 use std::alloc::Global;
+use std::sync::Arc;
 use std::sync::ledger::Ledger;
 
 /// What sessions over one book came to.
@@ -24,7 +26,8 @@ pub struct Run {
     pub stopped: bool,
 }
 
-/// Runs a session of each script over one book of these models, at most eight. The sessions are numbered from 1 in the
+/// Runs a session of each script over one book of these models, whose cache holds at most so many messages, 0 to 256;
+/// at most eight scripts. The sessions are numbered from 1 in the
 /// order of the scripts. Each turn names a session, which makes its next act, if it has one; a number that is no
 /// session's does nothing. When the turns are used up, the sessions run to their ends in their order. A model's dates
 /// are read off the curve that it names, or the first where it names none. Each product of two enclosures in the tables
@@ -34,18 +37,21 @@ pub struct Run {
 pub fn run_in_turns<L: Ledger>(
     alloc: Global,
     models: StartModels,
+    capacity: u16,
     scripts: Vec<Script>,
     turns: &[u32],
-    curves: &Curves,
+    curves: &Arc<Curves>,
     steps: &mut Steps<L>,
 ) -> Result<Run, NoMemory>
     requires ready { All AreFit scripts.items }
+    requires capacity { capacity ≤ 256 }
     requires few { length scripts.items ≤ 8 }
-    ensures { IfOk result (λ run. IsRunOf (calibration_of curves.now) models scripts.items turns.now run) }
+    ensures { IfOk result (λ run.
+        IsRunOf (calibration_of (arc_value curves.now)) models capacity scripts.items turns.now run) }
 {
     let mut transcripts = Vec::new(alloc);
     transcripts.reserve(scripts.len())?;
-    let mut all = Sessions::new(alloc, models, scripts)?;
+    let mut all = Sessions::new(alloc, models, capacity, scripts, curves)?;
     all.take_turns(alloc, turns, curves, steps);
     all.finish_all(alloc, curves, steps);
     Ok(all.close(transcripts))

@@ -1,7 +1,9 @@
 ghost use Rattle.std.specs.Prelude.{◌≡◌, ◌≢◌, ◌+◌, ◌<◌, ◌≤◌, ◌∷◌, [], suc, ℕ, List, length, map, replicate, vec_capacity, false, All, IfOk};
 ghost use Rattle.std.specs.List.{list_any};
-ghost use Rattle.cg_sharing.specs.Versions.{StartModel, start_of};
-ghost use Rattle.cg_sharing.specs.Journal.{IsLegal};
+ghost use Rattle.std.specs.Arc.{arc_value};
+ghost use Rattle.cg_curve.specs.Curves.{NamedCurve};
+ghost use Rattle.cg_sharing.specs.Versions.{StartModel};
+ghost use Rattle.cg_sharing.specs.Journal.{shared_of, IsLegal};
 ghost use Rattle.cg_sharing.specs.Course.{Calibration, AreFit};
 ghost use Rattle.cg_sharing.specs.Interleaving.{World, begun, last_turns};
 ghost use Rattle.cg_session.specs.Calibration.{calibration_of};
@@ -12,18 +14,20 @@ ghost use Rattle.cg_interleaving.specs.Taking.{AreAt, CanGoOn, AreIn, HaveTaken,
 use crate::run::Run;
 use cg_book::Book;
 use cg_curve::Curves;
+use cg_message::Message;
 use cg_num::NoMemory;
 use cg_script::Script;
 use cg_session::{BookPort, Progress, Session};
 use cg_table::Steps;
 use cg_versions::StartModels;
 use std::alloc::Global;
+use std::sync::Arc;
 use std::sync::ledger::Ledger;
 
 /// Sessions over one book, and whether want of memory has stopped one. The seat of a session is its place and one more.
 #[derive(Drop)]
 pub(crate) struct Sessions {
-    pub book: Book,
+    pub book: Book<Message>,
     pub list: Vec<Session>,
     pub stopped: bool,
 }
@@ -32,8 +36,9 @@ pub(crate) struct Sessions {
 fn begin(alloc: Global, scripts: Vec<Script>) -> Result<Vec<Session>, NoMemory>
     requires ready { All AreFit scripts.items }
     requires few { length scripts.items ≤ 8 }
-    ensures at { IfOk result (λ list. (calibration : Calibration) (models : List StartModel)
-        → AreAt calibration record { start = start_of models; journal = [] } 1 list.items) }
+    ensures at { IfOk result (λ list. (calibration : Calibration) (models : List StartModel) (capacity : ℕ)
+        (curves : List NamedCurve)
+        → AreAt calibration record { start = shared_of models capacity; journal = []; origin = curves } 1 list.items) }
     ensures read { IfOk result (λ list. map script_of list.items ≡ scripts.items) }
     ensures going { IfOk result (λ list. list_any is_stopped list.items ≡ false) }
 {
@@ -46,22 +51,26 @@ fn begin(alloc: Global, scripts: Vec<Script>) -> Result<Vec<Session>, NoMemory>
 }
 
 impl Sessions {
-    /// Sessions of these scripts over a book of these models, before their first commands.
+    /// Sessions of these scripts over a book of these models, with a cache of this capacity, before their first commands.
     pub fn new(
         alloc: Global,
         models: StartModels,
+        capacity: u16,
         scripts: Vec<Script>,
+        curves: &Arc<Curves>,
     ) -> Result<Sessions, NoMemory>
         requires ready { All AreFit scripts.items }
+        requires capacity { capacity ≤ 256 }
         requires few { length scripts.items ≤ 8 }
         ensures can { IfOk result (λ all. (calibration : Calibration) → CanGoOn calibration all) }
         ensures here { IfOk result (λ all. (calibration : Calibration)
-            → AreIn calibration (begun calibration models scripts.items) all) }
+            → AreIn calibration (begun calibration models capacity scripts.items) all) }
         ensures read { IfOk result (λ all. map script_of all.list.items ≡ scripts.items) }
-        ensures start { IfOk result (λ all. all.book.start ≡ start_of models) }
+        ensures start { IfOk result (λ all. all.book.start ≡ shared_of models capacity) }
     {
+        let origin = Arc::try_clone(curves)?;
         let list = begin(alloc, scripts)?;
-        let book = Book::new(alloc, models)?;
+        let book = Book::new(alloc, models, capacity, origin)?;
         Ok(Sessions {
             book,
             list,
@@ -74,12 +83,12 @@ impl Sessions {
         &mut self,
         alloc: Global,
         place: usize,
-        curves: &Curves,
+        curves: &Arc<Curves>,
         steps: &mut Steps<L>,
     ) -> bool
-        requires can { CanGoOn (calibration_of curves.now) self.old }
+        requires can { CanGoOn (calibration_of (arc_value curves.now)) self.old }
         requires within { place < length self.old.list.items }
-        ensures { Advances (calibration_of curves.now) place result self.old self.new }
+        ensures { Advances (calibration_of (arc_value curves.now)) place result self.old self.new }
     {
         let mut port = BookPort {
             book: &mut self.book,
@@ -100,15 +109,15 @@ impl Sessions {
         &mut self,
         alloc: Global,
         number: usize,
-        curves: &Curves,
+        curves: &Arc<Curves>,
         steps: &mut Steps<L>,
     )
-        requires { CanGoOn (calibration_of curves.now) self.old }
-        ensures can { CanGoOn (calibration_of curves.now) self.new }
+        requires { CanGoOn (calibration_of (arc_value curves.now)) self.old }
+        ensures can { CanGoOn (calibration_of (arc_value curves.now)) self.new }
         ensures same { map script_of self.new.list.items ≡ map script_of self.old.list.items }
         ensures start { self.new.book.start ≡ self.old.book.start }
-        ensures taken { (world : World) → AreIn (calibration_of curves.now) world self.old
-            → HaveTaken (calibration_of curves.now) (number ∷ []) world self.new }
+        ensures taken { (world : World) → AreIn (calibration_of (arc_value curves.now)) world self.old
+            → HaveTaken (calibration_of (arc_value curves.now)) (number ∷ []) world self.new }
     {
         if 1 <= number && number <= self.list.len() {
             self.advance(alloc, number - 1, curves, steps);
@@ -120,15 +129,15 @@ impl Sessions {
         &mut self,
         alloc: Global,
         turns: &[u32],
-        curves: &Curves,
+        curves: &Arc<Curves>,
         steps: &mut Steps<L>,
     )
-        requires { CanGoOn (calibration_of curves.now) self.old }
-        ensures can { CanGoOn (calibration_of curves.now) self.new }
+        requires { CanGoOn (calibration_of (arc_value curves.now)) self.old }
+        ensures can { CanGoOn (calibration_of (arc_value curves.now)) self.new }
         ensures same { map script_of self.new.list.items ≡ map script_of self.old.list.items }
         ensures start { self.new.book.start ≡ self.old.book.start }
-        ensures taken { (world : World) → AreIn (calibration_of curves.now) world self.old
-            → HaveTaken (calibration_of curves.now) turns.now world self.new }
+        ensures taken { (world : World) → AreIn (calibration_of (arc_value curves.now)) world self.old
+            → HaveTaken (calibration_of (arc_value curves.now)) turns.now world self.new }
     {
         for number in turns {
             self.turn(alloc, *number as usize, curves, steps);
@@ -140,33 +149,38 @@ impl Sessions {
         &mut self,
         alloc: Global,
         place: usize,
-        curves: &Curves,
+        curves: &Arc<Curves>,
         steps: &mut Steps<L>,
     )
-        requires can { CanGoOn (calibration_of curves.now) self.old }
+        requires can { CanGoOn (calibration_of (arc_value curves.now)) self.old }
         requires within { place < length self.old.list.items }
-        ensures can { CanGoOn (calibration_of curves.now) self.new }
+        ensures can { CanGoOn (calibration_of (arc_value curves.now)) self.new }
         ensures same { map script_of self.new.list.items ≡ map script_of self.old.list.items }
         ensures start { self.new.book.start ≡ self.old.book.start }
-        ensures taken { (world : World) → AreIn (calibration_of curves.now) world self.old
-            → HaveTaken (calibration_of curves.now) (replicate (lines_at place world + 1) (suc place)) world self.new }
-        ensures others { (other : ℕ) → other ≢ place → HasEndAt (calibration_of curves.now) other self.old
-            → HasEndAt (calibration_of curves.now) other self.new }
-        ensures over { HasEndAt (calibration_of curves.now) place self.new }
+        ensures taken { (world : World) → AreIn (calibration_of (arc_value curves.now)) world self.old
+            → HaveTaken (calibration_of (arc_value curves.now)) (replicate (lines_at place world + 1) (suc place)) world self.new }
+        ensures others { (other : ℕ) → other ≢ place → HasEndAt (calibration_of (arc_value curves.now)) other self.old
+            → HasEndAt (calibration_of (arc_value curves.now)) other self.new }
+        ensures over { HasEndAt (calibration_of (arc_value curves.now)) place self.new }
     {
         while self.advance(alloc, place, curves, steps) {}
     }
 
     /// Lets all sessions advance to their ends, in their order.
-    pub fn finish_all<L: Ledger>(&mut self, alloc: Global, curves: &Curves, steps: &mut Steps<L>)
-        requires { CanGoOn (calibration_of curves.now) self.old }
-        ensures can { CanGoOn (calibration_of curves.now) self.new }
+    pub fn finish_all<L: Ledger>(
+        &mut self,
+        alloc: Global,
+        curves: &Arc<Curves>,
+        steps: &mut Steps<L>,
+    )
+        requires { CanGoOn (calibration_of (arc_value curves.now)) self.old }
+        ensures can { CanGoOn (calibration_of (arc_value curves.now)) self.new }
         ensures same { map script_of self.new.list.items ≡ map script_of self.old.list.items }
         ensures start { self.new.book.start ≡ self.old.book.start }
-        ensures taken { (world : World) → AreIn (calibration_of curves.now) world self.old
-            → HaveTaken (calibration_of curves.now) (last_turns 1 world.places) world self.new }
+        ensures taken { (world : World) → AreIn (calibration_of (arc_value curves.now)) world self.old
+            → HaveTaken (calibration_of (arc_value curves.now)) (last_turns 1 world.places) world self.new }
         ensures over { (place : ℕ) → place < length self.old.list.items
-            → HasEndAt (calibration_of curves.now) place self.new }
+            → HasEndAt (calibration_of (arc_value curves.now)) place self.new }
     {
         for place in 0..self.list.len() {
             self.finish(alloc, place, curves, steps);

@@ -1,5 +1,5 @@
 -- The lines of a transcript. chron's own.
-use Rattle.std.specs.Prelude.{ℕ, ◌+◌, ◌-◌, List, [], ◌∷◌, ◌++◌, length, codes, decimal, Option, Some, None, ℤ}
+use Rattle.std.specs.Prelude.{ℕ, ◌+◌, ◌-◌, ◌/◌, ◌%◌, List, [], ◌∷◌, ◌++◌, length, codes, decimal, Option, Some, None, ℤ}
 use Rattle.std.specs.List.{flat_map}
 use Rattle.std.specs.Fmt.{signed_decimal}
 use Rattle.sha2.specs.Sha256.{sha256}
@@ -112,17 +112,22 @@ marginal_lines grid event version (Some pairs) =
 abbrev pub run_line : Grid → ℕ × ℕ → List ℕ
 run_line grid run = line (year_text (year_of grid run.0) ++ codes " to " ++ year_text (year_of grid run.1))
 
--- what the lower ends of the ranges sum to, and their years
-abbrev pub target_lines : Grid → List ℕ → Ranges → List ℕ
-target_lines grid target ranges =
-    line (target ++ codes " " ++ decimal ranges.sum) ++ flat_map (run_line grid) ranges.runs
+-- the parts of a posterior that ranges cover, in parts per million
+abbrev pub targets : List ℕ
+targets = 683000 ∷ 954000 ∷ 997000 ∷ []
 
--- the ranges of 68.3, 95.4 and 99.7 per cent
+-- a part in per cent, with one digit behind the point
+abbrev pub per_cent : ℕ → List ℕ
+per_cent target = decimal (target / 10000) ++ codes "." ++ decimal (target / 1000 % 10)
+
+-- a part, what the lower ends of its ranges sum to, and their years
+abbrev pub target_lines : Grid → ℕ → Ranges → List ℕ
+target_lines grid target ranges =
+    line (per_cent target ++ codes " " ++ decimal ranges.sum) ++ flat_map (run_line grid) ranges.runs
+
+-- the ranges of all of them
 abbrev pub range_lines : Grid → List (ℕ × ℕ) → List ℕ
-range_lines grid pairs =
-    target_lines grid (codes "68.3") (ranges_of pairs 683000)
-    ++ target_lines grid (codes "95.4") (ranges_of pairs 954000)
-    ++ target_lines grid (codes "99.7") (ranges_of pairs 997000)
+range_lines grid pairs = flat_map (λ target. target_lines grid target (ranges_of pairs target)) targets
 
 -- impossible where there are no pairs
 abbrev pub ranges_lines : Grid → Name → ℕ → Option (List (ℕ × ℕ)) → List ℕ

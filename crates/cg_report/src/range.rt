@@ -5,7 +5,7 @@ ghost use Rattle.std.specs.Option.{ForSome};
 ghost use Rattle.cg_marginal.specs.Marginal.{pairs_of, cell_count};
 ghost use Rattle.cg_ranges.specs.Ranges.{ranges_of};
 ghost use Rattle.cg_ranges.specs.Runs.{IsRunOf};
-ghost use Rattle.cg_report.specs.Texts.{line, run_line, target_lines, range_lines, ranges_lines};
+ghost use Rattle.cg_report.specs.Texts.{line, per_cent, run_line, target_lines, range_lines, ranges_lines};
 
 use crate::line::{push_year, subject_line};
 use cg_marginal::Marginal;
@@ -48,14 +48,13 @@ fn push_ranges(
     ensures { OnOk result
         (IfSome (pairs_of marginal.now) (λ pairs. text.new.items ≡ text.old.items ++ range_lines grid.now pairs)) }
 {
-    push_target(alloc, b"68.3", 683_000, marginal, grid, text)?;
-    push_target(alloc, b"95.4", 954_000, marginal, grid, text)?;
-    push_target(alloc, b"99.7", 997_000, marginal, grid, text)
+    push_target(alloc, 683_000, marginal, grid, text)?;
+    push_target(alloc, 954_000, marginal, grid, text)?;
+    push_target(alloc, 997_000, marginal, grid, text)
 }
 
 fn push_target(
     alloc: Global,
-    label: &[u8],
     target: u32,
     marginal: &Marginal,
     grid: &Grid,
@@ -65,19 +64,21 @@ fn push_target(
     requires cells { cell_count marginal.now ≡ grid.now.cells }
     requires target { target ≤ 998464 }
     ensures { OnOk result (IfSome (pairs_of marginal.now) (λ pairs. text.new.items
-        ≡ text.old.items ++ target_lines grid.now label.now (ranges_of pairs target))) }
+        ≡ text.old.items ++ target_lines grid.now target (ranges_of pairs target))) }
 {
     prove!(grid.cells() <= 512);
     let ranges = ranges(alloc, marginal, target)?;
-    push_sum(label, ranges.sum(), text)?;
+    push_sum(target, ranges.sum(), text)?;
     push_runs(alloc, grid, &ranges, text)
 }
 
-fn push_sum(label: &[u8], sum: u32, text: &mut Vec<u8>) -> Result<(), NoMemory>
-    ensures { OnOk result (text.new.items ≡ text.old.items ++ line (label.now ++ codes " " ++ decimal sum)) }
+fn push_sum(target: u32, sum: u32, text: &mut Vec<u8>) -> Result<(), NoMemory>
+    ensures { OnOk result (text.new.items ≡ text.old.items ++ line (per_cent target ++ codes " " ++ decimal sum)) }
 {
     let mut digits = Buffer::new();
-    text.extend_from_slice(label)?;
+    text.extend_from_slice(digits.format(target / 10_000).as_bytes())?;
+    text.extend_from_slice(b".")?;
+    text.extend_from_slice(digits.format(target / 1_000 % 10).as_bytes())?;
     text.extend_from_slice(b" ")?;
     text.extend_from_slice(digits.format(sum).as_bytes())?;
     text.extend_from_slice(b"\n")?;

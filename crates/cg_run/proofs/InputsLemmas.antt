@@ -19,7 +19,7 @@ use Rattle.cg_up.specs.Curve.{curve_in, rows_at}
 use Rattle.cg_grammar.proofs.LimitLemmas.{each-spelled}
 use Rattle.cg_sharing.specs.Command.{Line}
 use Rattle.cg_sharing.specs.Versions.{StartModel, start_of}
-use Rattle.cg_sharing.specs.Journal.{Entry, IsLegal}
+use Rattle.cg_sharing.specs.Journal.{Entry, shared_of, IsLegal}
 use Rattle.cg_sharing.specs.Pieces.{Print, prints_of, ranges_of}
 use Rattle.cg_sharing.specs.Course.{Place, IsCourse, AreFit}
 use Rattle.cg_sharing.proofs.PieceLemmas.{ranges_of-all}
@@ -33,7 +33,8 @@ use Rattle.cg_files.specs.Reading.{File, AcceptsAll}
 use Rattle.cg_files.specs.Inputs.{Inputs, names_of, files_of, said_of_curves, said_of_models, said_of_scripts, AreInputs}
 use Rattle.cg_report.specs.declared.file.FileKind.{FileKind}
 use Rattle.cg_report.specs.declared.file.FileKind.TheVariants.{Curve, Model, Session}
-use Rattle.cg_run.specs.Run.{IsRightPrint, AreRightRanges, targets}
+use Rattle.cg_report.specs.Texts.{targets}
+use Rattle.cg_run.specs.Run.{IsRightPrint, AreRightRanges}
 
 -- ---- what files say, where curves of these names are given
 
@@ -130,24 +131,24 @@ sound told request inputs are =
 abbrev Founded : Inputs → Place → Type 0
 Founded inputs place = All (λ print. IsFounded (calibration_of inputs.curves) print) (prints_of place.written)
 
-session_founded : (inputs : Inputs) (session : ℕ) (script : List Line) (entries : List Entry) (place : Place) → PrintsAreFounded → AreSound inputs → AreFit script → IsLegal (start_of inputs.models) entries →
+session_founded : (inputs : Inputs) (capacity session : ℕ) (script : List Line) (entries : List Entry) (place : Place) → PrintsAreFounded → AreSound inputs → AreFit script → IsLegal (shared_of inputs.models capacity) entries →
     IsOver (calibration_of inputs.curves) session (start_of inputs.models) script entries place → Founded inputs place
-session_founded inputs session script entries place prints are fit legal over =
-    prints (calibration_of inputs.curves) session inputs.models script entries place are.models fit legal (course over)
+session_founded inputs capacity session script entries place prints are fit legal over =
+    prints (calibration_of inputs.curves) session inputs.models capacity script entries place are.models fit legal (course over)
   where
     course : IsOver (calibration_of inputs.curves) session (start_of inputs.models) script entries place → IsCourse (calibration_of inputs.curves) session (start_of inputs.models) script entries place
     course (inl done) = inl done.0
     course (inr stop) = inr stop
 
-each_session : (inputs : Inputs) (session : ℕ) (scripts : List (List Line)) (entries : List Entry) (places : List Place) → PrintsAreFounded → AreSound inputs → All AreFit scripts → IsLegal (start_of inputs.models) entries →
+each_session : (inputs : Inputs) (capacity session : ℕ) (scripts : List (List Line)) (entries : List Entry) (places : List Place) → PrintsAreFounded → AreSound inputs → All AreFit scripts → IsLegal (shared_of inputs.models capacity) entries →
     AreOver (calibration_of inputs.curves) session (start_of inputs.models) scripts entries places → All (Founded inputs) places
-each_session inputs session [] entries [] prints are fit legal over = All-nil (Founded inputs)
-each_session inputs session [] entries (place ∷ places) prints are fit legal over = absurd over
-each_session inputs session (script ∷ scripts) entries [] prints are fit legal over = absurd over
-each_session inputs session (script ∷ scripts) entries (place ∷ places) prints are fit legal over =
+each_session inputs capacity session [] entries [] prints are fit legal over = All-nil (Founded inputs)
+each_session inputs capacity session [] entries (place ∷ places) prints are fit legal over = absurd over
+each_session inputs capacity session (script ∷ scripts) entries [] prints are fit legal over = absurd over
+each_session inputs capacity session (script ∷ scripts) entries (place ∷ places) prints are fit legal over =
     All-cons (Founded inputs) place places
-    (session_founded inputs session script entries place prints are (All-head AreFit script scripts fit) legal over.0)
-    (each_session inputs (session + 1) scripts entries places prints are (All-tail AreFit script scripts fit) legal over.1)
+    (session_founded inputs capacity session script entries place prints are (All-head AreFit script scripts fit) legal over.0)
+    (each_session inputs capacity (session + 1) scripts entries places prints are (All-tail AreFit script scripts fit) legal over.1)
 
 -- ---- what is founded is right
 
@@ -175,7 +176,7 @@ ranges_right inputs print recipes ranges are founded =
     each_target tree print.scene print.event (recipe tree print.scene print.event) ranges founded.grid.few right.holds right.narrow
 
 module _ (told : Option Files) (request : Request) (inputs : Inputs) (entries : List Entry) (places : List Place) (recipes : RecipesAreRight) (prints : PrintsAreFounded) (accepted : AreInputs told request inputs)
-    (legal : IsLegal (start_of inputs.models) entries) (over : AreOver (calibration_of inputs.curves) 1 (start_of inputs.models) inputs.scripts entries places) where
+    (legal : IsLegal (shared_of inputs.models request.cache) entries) (over : AreOver (calibration_of inputs.curves) 1 (start_of inputs.models) inputs.scripts entries places) where
   abbrev F : Print → Type 0
   F print = IsFounded (calibration_of inputs.curves) print
 
@@ -183,7 +184,7 @@ module _ (told : Option Files) (request : Request) (inputs : Inputs) (entries : 
   are = sound told request inputs accepted
 
   founded : All (Founded inputs) places
-  founded = each_session inputs 1 inputs.scripts entries places prints are (ready told request inputs accepted) legal over
+  founded = each_session inputs request.cache 1 inputs.scripts entries places prints are (ready told request inputs accepted) legal over
 
   -- each marginal that the sessions of accepted files print is right
   pub each_right : All (λ place. All IsRightPrint (prints_of place.written)) places

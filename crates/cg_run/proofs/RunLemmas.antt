@@ -4,7 +4,7 @@ use Rattle.std.specs.List.{concat}
 use Rattle.cg_io.specs.Shelf.{Files}
 use Rattle.cg_io.specs.Sink.{Takes}
 use Rattle.cg_sharing.specs.Versions.{start_of}
-use Rattle.cg_sharing.specs.Journal.{Entry, IsLegal}
+use Rattle.cg_sharing.specs.Journal.{Entry, shared_of, IsLegal}
 use Rattle.cg_sharing.specs.Interleaving.{IsOfSession}
 use Rattle.cg_sharing.proofs.TurnLemmas.{turns_decide_all, all_of_sessions}
 use Rattle.cg_session.specs.Calibration.{calibration_of}
@@ -18,17 +18,19 @@ use Rattle.cg_files.specs.Inputs.{Inputs}
 use Rattle.cg_run.proofs.InputsLemmas.{each_right, each_range}
 use Rattle.cg_run.specs.Run.{AreAccepted, IsJournal, HaveRun, TakesAll, IsDone, IsCutOff, HasStopped}
 
--- the turns that the sessions took are those of the request
-pub turns_same : (inputs : Inputs) (taken turns : List ℕ) → taken ≡ turns → (run : Run) →
-    IsRunOf (calibration_of inputs.curves) inputs.models inputs.scripts taken run → IsRunOf (calibration_of inputs.curves) inputs.models inputs.scripts turns run
-turns_same inputs taken turns same run is = subst (λ ts. IsRunOf (calibration_of inputs.curves) inputs.models inputs.scripts ts run) same is
+-- the turns that the sessions took and the size of their cache are those of the request
+pub turns_same : (inputs : Inputs) (size capacity : ℕ) (taken turns : List ℕ) → size ≡ capacity → taken ≡ turns → (run : Run) →
+    IsRunOf (calibration_of inputs.curves) inputs.models size inputs.scripts taken run → IsRunOf (calibration_of inputs.curves) inputs.models capacity inputs.scripts turns run
+turns_same inputs size capacity taken turns sized same run is =
+    let S : ℕ → Type 0 = λ n. IsRunOf (calibration_of inputs.curves) inputs.models n inputs.scripts taken run in
+    subst (λ ts. IsRunOf (calibration_of inputs.curves) inputs.models capacity inputs.scripts ts run) same (subst S sized is)
 
 module _ (words : List (List ℕ)) (told : Option Files) (request : Request) (inputs : Inputs) (run : Run) (accepts : AreAccepted words told request inputs)
-    (ran : IsRunOf (calibration_of inputs.curves) inputs.models inputs.scripts request.turns run)
+    (ran : IsRunOf (calibration_of inputs.curves) inputs.models request.cache inputs.scripts request.turns run)
     (recipes : RecipesAreRight) (ranges : RangesCover) (prints : PrintsAreFounded) where
   abbrev entries_so : IsJournal words told run.journal
   entries_so =
-      let L : List Entry → Type 0 = λ es. IsLegal (start_of inputs.models) es in
+      let L : List Entry → Type 0 = λ es. IsLegal (shared_of inputs.models request.cache) es in
       let S : List Entry → Type 0 = λ es. All (IsOfSession (length inputs.scripts)) es in
       let O : List Entry → Type 0 = λ es. AreOver (calibration_of inputs.curves) 1 (start_of inputs.models) inputs.scripts es ran.world.places in
       record {
@@ -39,7 +41,7 @@ module _ (words : List (List ℕ)) (told : Option Files) (request : Request) (in
         interleaved = ran.interleaved;
         is = ran.journal;
         legal = subst L (sym ran.journal) ran.legal;
-        seats = subst S (sym ran.journal) (all_of_sessions (calibration_of inputs.curves) inputs.models inputs.scripts request.turns ran.world ran.interleaved);
+        seats = subst S (sym ran.journal) (all_of_sessions (calibration_of inputs.curves) inputs.models request.cache inputs.scripts request.turns ran.world ran.interleaved);
         over = subst O (sym ran.journal) ran.over;
       }
 
@@ -47,7 +49,7 @@ module _ (words : List (List ℕ)) (told : Option Files) (request : Request) (in
   ran_so stopped is = record {
     entries = entries_so;
     some = sym is ∙ ran.stopped;
-    whole = λ none. turns_decide_all (calibration_of inputs.curves) inputs.models inputs.scripts request.turns ran.world ran.interleaved (sym ran.stopped ∙ is ∙ none);
+    whole = λ none. turns_decide_all (calibration_of inputs.curves) inputs.models request.cache inputs.scripts request.turns ran.world ran.interleaved (sym ran.stopped ∙ is ∙ none);
     written = ap concat ran.written;
     right = each_right told request inputs ran.world.journal ran.world.places recipes prints accepts.files ran.legal ran.over;
     ranges = each_range told request inputs ran.world.journal ran.world.places recipes prints accepts.files ran.legal ran.over ranges;

@@ -9,10 +9,11 @@ use Rattle.cg_recipe.specs.Laws.{IsRight}
 use Rattle.cg_ranges.specs.Cover.{cover}
 use Rattle.cg_ranges.specs.Laws.{Covers}
 use Rattle.cg_sharing.specs.Versions.{start_of}
-use Rattle.cg_sharing.specs.Journal.{Entry, IsLegal}
+use Rattle.cg_sharing.specs.Journal.{Entry, shared_of, IsLegal}
 use Rattle.cg_sharing.specs.Pieces.{Print, prints_of, ranges_of}
 use Rattle.cg_sharing.specs.Course.{Place}
 use Rattle.cg_sharing.specs.Interleaving.{World, interleaving, IsInterleaving, some_stopped, IsOfSession}
+use Rattle.cg_report.specs.Texts.{targets}
 use Rattle.cg_report.specs.Transcript.{transcripts_of}
 use Rattle.cg_report.specs.declared.status.Status.{Status}
 use Rattle.cg_report.specs.declared.status.Status.TheVariants.{Done, Usage, ReadFault, Refused, WriteFault, NoMemory}
@@ -45,9 +46,9 @@ pub record IsJournal (words : List (List ℕ)) (told : Option Files) (journal : 
   pub inputs : Inputs
   pub accepted : AreAccepted words told request inputs
   pub world : World
-  pub interleaved : IsInterleaving (calibration_of inputs.curves) inputs.models inputs.scripts request.turns world
+  pub interleaved : IsInterleaving (calibration_of inputs.curves) inputs.models request.cache inputs.scripts request.turns world
   pub is : journal ≡ world.journal
-  pub legal : IsLegal (start_of inputs.models) journal
+  pub legal : IsLegal (shared_of inputs.models request.cache) journal
   pub seats : All (IsOfSession (length inputs.scripts)) journal
   pub over : AreOver (calibration_of inputs.curves) 1 (start_of inputs.models) inputs.scripts journal world.places
 
@@ -58,10 +59,6 @@ output_of places = concat (transcripts_of recipe 1 places)
 -- the marginal that is printed holds for every admitted weighting of the print's model, in its scene, and is narrow
 abbrev pub IsRightPrint : Print → Type 0
 IsRightPrint print = IsRight (root_of print.chronology) print.scene print.event
-
--- the parts of a posterior that ranges cover: 68.3, 95.4 and 99.7 per cent, in parts per million
-abbrev pub targets : List ℕ
-targets = 683000 ∷ 954000 ∷ 997000 ∷ []
 
 -- each range that is printed has its part of the event's posterior, under every admitted weighting
 abbrev pub AreRightRanges : Print → Type 0
@@ -77,8 +74,8 @@ pub record HaveRun (words : List (List ℕ)) (told : Option Files) (journal : Li
   pub entries : IsJournal words told journal
   pub some : stopped ≡ some_stopped entries.world.places
   pub whole : stopped ≡ false → entries.world ≡
-      interleaving (calibration_of entries.inputs.curves) entries.inputs.models entries.inputs.scripts
-      entries.request.turns
+      interleaving (calibration_of entries.inputs.curves) entries.inputs.models entries.request.cache
+      entries.inputs.scripts entries.request.turns
   pub written : output ≡ output_of entries.world.places
   pub right : All (λ place. All IsRightPrint (prints_of place.written)) entries.world.places
   pub ranges : All (λ place. All AreRightRanges (ranges_of place.written)) entries.world.places

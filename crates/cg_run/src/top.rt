@@ -25,6 +25,7 @@ use cg_table::Steps;
 use cg_words::request_of;
 use std::alloc::Global;
 use std::marker::Brand;
+use std::sync::Arc;
 use std::sync::ledger::{Blank, Ledger};
 
 fn status_of(fault: FileFault) -> Status
@@ -50,20 +51,22 @@ fn unbegun(alloc: Global, status: Status) -> Ended
     }
 }
 
-/// Runs the sessions of the files in turns. Their products of enclosures are counted from 0.
+/// Runs the sessions of the files in turns, over a cache for so many messages. Their products of enclosures are counted from 0.
 fn run_sessions<L: Ledger>(
     alloc: Global,
     inputs: Inputs,
+    capacity: u16,
     turns: &[u32],
     blank: Blank,
 ) -> Result<Run, NoMemory>
+    requires capacity { capacity ≤ 256 }
     requires ready { All AreFit inputs.scripts.items }
     requires few { length inputs.scripts.items ≤ 8 }
     requires name { blank.name ≡ L.name }
     requires parts { blank.parts ≡ L.parts }
     requires some { 0 < L.parts }
     ensures { IfOk result (λ run.
-        IsRunOf (calibration_of inputs.curves) inputs.models inputs.scripts.items turns.now run) }
+        IsRunOf (calibration_of inputs.curves) inputs.models capacity inputs.scripts.items turns.now run) }
 {
     let mut steps = Steps::<L>::open(blank);
     let Inputs {
@@ -71,11 +74,12 @@ fn run_sessions<L: Ledger>(
         models,
         scripts,
     } = inputs;
-    run_in_turns(alloc, models, scripts, turns, &curves, &mut steps)
+    let curves = Arc::new(alloc, curves)?;
+    run_in_turns(alloc, models, capacity, scripts, turns, &curves, &mut steps)
 }
 
 /// Runs the words of the command line: reads the curves, the models and the session scripts, lets the sessions take
-/// turns over one book of the models, and writes their transcripts. A model's dates are read off the curve that it
+/// turns over one book of the models with a cache of the words' size, and writes their transcripts. A model's dates are read off the curve that it
 /// names, or the first where it names none.
 pub fn run_alone<H: Shelf, K: Sink>(
     alloc: Global,
@@ -147,7 +151,8 @@ pub fn run_alone<H: Shelf, K: Sink>(
         Ok(inputs) => inputs,
         Err(fault) => return unbegun(alloc, status_of(fault)),
     };
-    match run_sessions::<Brand>(alloc, inputs, request.turns(), Blank::new(1)) {
+    let capacity = request.cache();
+    match run_sessions::<Brand>(alloc, inputs, capacity, request.turns(), Blank::new(1)) {
         Ok(run) => write_run(out, run),
         Err(NoMemory) => unbegun(alloc, Status::NoMemory),
     }

@@ -6,12 +6,13 @@ use Rattle.std.proofs.lemmas.List.{take_all}
 use Rattle.cg_sharing.specs.Command.{Command, Line}
 use Rattle.cg_sharing.specs.Versions.{State, count_of, chronology_of}
 use Rattle.cg_sharing.specs.Journal as journal
-use Rattle.cg_sharing.specs.Journal.{Act, Answer, Entry, state_after, May, IsLegal}
+use Rattle.cg_sharing.specs.Journal.{Act, Answer, Entry, Shared, state_after, May, IsLegal}
 use Rattle.cg_sharing.specs.Course.{Calibration, Place, act_of, settled, answered, AreOthers, IsRunning, stopped_at, IsStopped, Reaches, IsFit, AreFit}
-use Rattle.cg_sharing.proofs.JournalLemmas.{state_after-append, IsBelow, IsClosed, start-closed}
-use Rattle.cg_sharing.proofs.CourseLemmas.{act_of-left, may_next, running_knows}
+use Rattle.cg_sharing.proofs.JournalLemmas.{state_after-append, state-shared_after, IsBelow, IsClosed, start-closed}
+use Rattle.cg_sharing.proofs.CourseLemmas.{Knows, act_of-left, may_next, running_knows}
 use Rattle.cg_sharing.proofs.ReachLemmas.{SameText, chronology_of-state_after, settled-act, reach_others, reach_own}
-use Rattle.cg_book.specs.Plain.{Seen, state_of}
+use Rattle.cg_book.specs.Plain.{shared_in, state_of}
+use Rattle.cg_session.specs.Port.{Seen}
 use Rattle.cg_session.specs.declared.session.Session.{Session}
 use Rattle.cg_session.specs.declared.standing.Version.{Version}
 use Rattle.cg_session.specs.Standing.{number_of, Shows, HasText, IsSpare}
@@ -27,8 +28,8 @@ pub fits : (n : ℕ) (lines : List Line) → AreFit lines → AreFit (take n lin
 fits n lines ready = All-take (λ (line : Line). IsFit line.command) n lines ready
 
 -- the start is closed
-pub closed_start : (calibration : Calibration) (seen : Seen) (s : Session) → IsAt calibration seen s → IsClosed seen.start
-closed_start calibration seen s at = let P : State → Type 0 = λ state. IsClosed state in subst P (sym at.start) (start-closed at.models)
+pub closed_start : (calibration : Calibration) (seen : Seen) (s : Session) → IsAt calibration seen s → IsClosed seen.start.state
+closed_start calibration seen s at = let P : Shared → Type 0 = λ shared. IsClosed shared.state in subst P (sym at.start) (start-closed at.models)
 
 -- a session that runs is at a version that is known
 pub known_version : (calibration : Calibration) (seen : Seen) (s : Session) → s.stopped ≡ false → IsAt calibration seen s → IsBelow (count_of (state_of seen)) (number_of s.standing.version)
@@ -42,18 +43,19 @@ known_version calibration seen s run at =
     (subst A (sym (append-nil (take s.done s.script))) (fits s.done s.script at.ready)) at.legal whole).0.version
 
 -- it may make the event of its next line
-pub may_at : (calibration : Calibration) (seen : Seen) (s : Session) (line : Line) (act : Act) → s.stopped ≡ false → IsAt calibration seen s → slice_get s.script s.done ≡ Some line → ((place : Place) → Shows s.standing place → act_of place line.command ≡ Some act) → May (state_of seen) act
+pub may_at : (calibration : Calibration) (seen : Seen) (s : Session) (line : Line) (act : Act) → s.stopped ≡ false → IsAt calibration seen s → slice_get s.script s.done ≡ Some line → ((place : Place) → Shows s.standing place → act_of place line.command ≡ Some act) → May (shared_in seen) s.number act
 may_at calibration seen s line act run at here acts =
     let p = at.stands.0 in
     let stands = at.stands.1 in
     let is = acts p stands.0.shows in
     let q : Place = record p { left = line ∷ [] } in
-    let P : Place → Type 0 = λ place. IsRunning calibration s.number seen.start (take s.done s.script ++ line ∷ []) seen.journal place in
+    let P : Place → Type 0 = λ place. IsRunning calibration s.number seen.start.state (take s.done s.script ++ line ∷ []) seen.journal place in
     let A : List Line → Type 0 = λ ls. AreFit ls in
     let known = running_knows calibration s.number seen.start (take s.done s.script ++ line ∷ []) seen.journal q (closed_start calibration seen s at)
     (subst A (take-slice_get s.script s.done line here) (fits (s.done + 1) s.script at.ready)) at.legal
     (subst P (settled-act calibration (state_of seen) line [] p act is) (reaches_at calibration seen s p run stands (line ∷ []))) in
-    may_next (state_of seen) q act known.0 known.1.fit (act_of-left line.command p (line ∷ []) ∙ is)
+    let K : State → Type 0 = λ state. Knows (count_of state) q in
+    may_next (shared_in seen) s.number q act (subst K (sym (state-shared_after seen.start seen.journal)) known.0) known.1.fit (act_of-left line.command p (line ∷ []) ∙ is)
 
 kept_text : (start : State) (xs more : List Entry) (number : ℕ) → number < count_of (state_after start xs) → chronology_of (state_after start xs) number ≡ chronology_of (state_after start (xs ++ more)) number
 kept_text start xs more number known =
@@ -71,9 +73,9 @@ same_text start xs more (Some v) known = kept_text start xs more v.number known
 pub text_at : (calibration : Calibration) (seen new : Seen) (s : Session) (more : List Entry) → s.stopped ≡ false → IsAt calibration seen s → new.start ≡ seen.start → new.journal ≡ seen.journal ++ more → HasText (state_of new) s.standing.version
 text_at calibration seen new s more run at begins is =
     let P : State → List Entry → Type 0 = λ b j. HasText (state_after b j) s.standing.version in
-    let Q : List Entry → Type 0 = λ j. P seen.start j in
+    let Q : List Entry → Type 0 = λ j. P seen.start.state j in
     let R : State → Type 0 = λ b. P b new.journal in
-    subst R (sym begins) (subst Q (sym is) (text_later seen.start seen.journal more s.standing.version (known_version calibration seen s run at) at.text))
+    subst R (sym (ap (λ (b : Shared). b.state) begins)) (subst Q (sym is) (text_later seen.start.state seen.journal more s.standing.version (known_version calibration seen s run at) at.text))
 
 -- the same as the course of `StandsAt`, by its parts
 abbrev StandsOn : Calibration → State → List Entry → ℕ → List Line → ℕ → Bool → Place → Type 0
@@ -105,20 +107,20 @@ answered_stands calibration seen new s t line act answer others p run at here is
     let entry : Entry = record { seat = s.number; act = act; answer = answer } in
     let did = take s.done s.script in
     let q = answered line answer p in
-    let V : Option ℕ → Type 0 = λ v. SameText (state_after seen.start seen.journal) (state_after seen.start (seen.journal ++ others)) v in
-    let same = subst V stands.0.shows.version (same_text seen.start seen.journal others s.standing.version (known_version calibration seen s run at)) in
-    let first = reach_others calibration s.number seen.start did seen.journal others p (reaches_at calibration seen s p run stands) theirs same in
-    let then = reach_own calibration s.number seen.start did line (seen.journal ++ others) entry p first refl is in
-    let R : List Line → Type 0 = λ ls. Reaches calibration s.number seen.start ls ((seen.journal ++ others) ++ entry ∷ []) q in (
+    let V : Option ℕ → Type 0 = λ v. SameText (state_after seen.start.state seen.journal) (state_after seen.start.state (seen.journal ++ others)) v in
+    let same = subst V stands.0.shows.version (same_text seen.start.state seen.journal others s.standing.version (known_version calibration seen s run at)) in
+    let first = reach_others calibration s.number seen.start.state did seen.journal others p (reaches_at calibration seen s p run stands) theirs same in
+    let then = reach_own calibration s.number seen.start.state did line (seen.journal ++ others) entry p first refl is in
+    let R : List Line → Type 0 = λ ls. Reaches calibration s.number seen.start.state ls ((seen.journal ++ others) ++ entry ∷ []) q in (
       record { shows = shows; stopped = stopped ∙ stands.0.stopped ∙ sym (answered-stopped line answer p) },
-      stands-on calibration seen.start new.start ((seen.journal ++ others) ++ entry ∷ []) new.journal s.number t.number s.script t.script (s.done + 1) t.done false t.stopped q
-          begins grown number script done (stopped ∙ run) (subst R (sym (take-slice_get s.script s.done line here)) then),
+      stands-on calibration seen.start.state new.start.state ((seen.journal ++ others) ++ entry ∷ []) new.journal s.number t.number s.script t.script (s.done + 1) t.done false t.stopped q
+          (ap (λ (b : Shared). b.state) begins) grown number script done (stopped ∙ run) (subst R (sym (take-slice_get s.script s.done line here)) then),
     )
 
 stopped_here : (calibration : Calibration) (seen : Seen) (s : Session) (others : List Entry) (place : Place) → s.stopped ≡ false → s.done < length s.script → AreOthers s.number others → StandsAt calibration seen s place →
-    IsStopped calibration s.number seen.start s.script (seen.journal ++ others) (stopped_at place)
+    IsStopped calibration s.number seen.start.state s.script (seen.journal ++ others) (stopped_at place)
 stopped_here calibration seen s others p run unfinished theirs stands =
-    let L : List Line → Type 0 = λ ls. IsRunning calibration s.number seen.start ls seen.journal (record p { left = [] }) in
+    let L : List Line → Type 0 = λ ls. IsRunning calibration s.number seen.start.state ls seen.journal (record p { left = [] }) in
     record {
       commands = s.done;
       earlier = seen.journal;
@@ -136,14 +138,14 @@ pub stopped_on : (calibration : Calibration) (seen new : Seen) (s t : Session) (
     t.number ≡ s.number → t.script ≡ s.script → t.stopped ≡ true → t.done ≡ s.done → Shows t.standing place → StandsAt calibration seen s place → StandsAt calibration new t (stopped_at place)
 stopped_on calibration seen new s t others p run unfinished theirs begins grown number script stopped done shows stands = (
   record { shows = record { text = shows.text; version = shows.version; grid = shows.grid; bases = shows.bases }; stopped = stopped },
-  stands-on calibration seen.start new.start (seen.journal ++ others) new.journal s.number t.number s.script t.script s.done t.done true t.stopped (stopped_at p)
-      begins grown number script done stopped (stopped_here calibration seen s others p run unfinished theirs stands),
+  stands-on calibration seen.start.state new.start.state (seen.journal ++ others) new.journal s.number t.number s.script t.script s.done t.done true t.stopped (stopped_at p)
+      (ap (λ (b : Shared). b.state) begins) grown number script done stopped (stopped_here calibration seen s others p run unfinished theirs stands),
 )
 
 -- what `StandsAt` says of a stopped session
-pub stands_stopped : (calibration : Calibration) (seen : Seen) (s : Session) (place : Place) → s.stopped ≡ true → StandsAt calibration seen s place → IsStopped calibration s.number seen.start s.script seen.journal place
+pub stands_stopped : (calibration : Calibration) (seen : Seen) (s : Session) (place : Place) → s.stopped ≡ true → StandsAt calibration seen s place → IsStopped calibration s.number seen.start.state s.script seen.journal place
 stands_stopped calibration seen s place is stands =
-    let P : Bool → Type 0 = λ b. StandsOn calibration seen.start seen.journal s.number s.script s.done b place in
+    let P : Bool → Type 0 = λ b. StandsOn calibration seen.start.state seen.journal s.number s.script s.done b place in
     subst P is stands.1
 
 -- A session whose script is done has run all of its course.
@@ -152,7 +154,7 @@ ended_at calibration seen s run at all =
     let p = at.stands.0 in
     let stands = at.stands.1 in
     let shows = stands.0.shows in
-    let L : List Line → Type 0 = λ ls. IsRunning calibration s.number seen.start ls seen.journal (record p { left = [] }) in
+    let L : List Line → Type 0 = λ ls. IsRunning calibration s.number seen.start.state ls seen.journal (record p { left = [] }) in
     let whole : take s.done s.script ++ [] ≡ s.script = append-nil (take s.done s.script) ∙ take_all s.done s.script (omega (arith, all)) in
     record {
       same = refl;
@@ -213,6 +215,7 @@ settled_at calibration seen new alone before s t line act spare result None run 
     let C : Progress → Type 0 = λ r. Came calibration r alone seen new before t in (
       record {
         models = at.models;
+        capacity = at.capacity;
         start = grows.start ∙ at.start;
         legal = legal;
         ready = subst (λ ls. AreFit ls) (sym script) at.ready;
@@ -238,6 +241,7 @@ settled_at calibration seen new alone before s t line act spare result (Some ans
     let C : Progress → Type 0 = λ r. Came calibration r alone seen new before t in (
       record {
         models = at.models;
+        capacity = at.capacity;
         start = grows.start ∙ at.start;
         legal = legal;
         ready = subst (λ ls. AreFit ls) (sym script) at.ready;

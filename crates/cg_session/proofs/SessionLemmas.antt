@@ -5,7 +5,8 @@ use Rattle.cg_sharing.specs.Command.{Line}
 use Rattle.cg_sharing.specs.Course.{Calibration, Place, act_of, done_at, settled, entrance_of, IsStopped, Reaches, AreFit}
 use Rattle.cg_sharing.proofs.CourseLemmas.{keeps-done_at}
 use Rattle.cg_sharing.proofs.ReachLemmas.{reach_begin, reach_done, reach_others}
-use Rattle.cg_book.specs.Plain.{Seen, state_of}
+use Rattle.cg_book.specs.Plain.{state_of}
+use Rattle.cg_session.specs.Port.{Seen}
 use Rattle.cg_session.specs.declared.session.Session.{Session}
 use Rattle.cg_session.specs.Standing.{Shows, HasText}
 use Rattle.cg_session.specs.Session.{IsIn, StandsAt, IsFresh, IsAt, IsSame}
@@ -13,7 +14,7 @@ use Rattle.cg_session.specs.Session.{IsIn, StandsAt, IsFresh, IsAt, IsSame}
 -- the same as the course of `StandsAt`, by its parts
 abbrev StandsBy : Calibration → Seen → ℕ → List Line → ℕ → Bool → Place → Type 0
 StandsBy calibration seen number script done stopped place =
-    MatchBool stopped (IsStopped calibration number seen.start script seen.journal place) (Reaches calibration number seen.start (take done script) seen.journal place)
+    MatchBool stopped (IsStopped calibration number seen.start.state script seen.journal place) (Reaches calibration number seen.start.state (take done script) seen.journal place)
 
 stands-same : (calibration : Calibration) (seen : Seen) (m n : ℕ) (script script' : List Line) (done done' : ℕ) (b c : Bool) (place : Place) → n ≡ m → script' ≡ script → done' ≡ done → c ≡ b → StandsBy calibration seen m script done b place → StandsBy calibration seen n script' done' c place
 stands-same calibration seen m n script script' done done' b c place e1 e2 e3 e4 h =
@@ -24,20 +25,21 @@ stands-same calibration seen m n script script' done done' b c place e1 e2 e3 e4
     subst P4 (sym e4) (subst P3 (sym e3) (subst P2 (sym e2) (subst P1 (sym e1) h)))
 
 -- a session that runs
-pub going : (calibration : Calibration) (seen : Seen) (s : Session) (place : Place) → s.stopped ≡ false → IsIn s place → Reaches calibration s.number seen.start (take s.done s.script) seen.journal place → StandsAt calibration seen s place
+pub going : (calibration : Calibration) (seen : Seen) (s : Session) (place : Place) → s.stopped ≡ false → IsIn s place → Reaches calibration s.number seen.start.state (take s.done s.script) seen.journal place → StandsAt calibration seen s place
 going calibration seen s place is within reach = (within, (let P : Bool → Type 0 = λ b. StandsBy calibration seen s.number s.script s.done b place in subst P (sym is) reach))
 
-pub reaches_at : (calibration : Calibration) (seen : Seen) (s : Session) (place : Place) → s.stopped ≡ false → StandsAt calibration seen s place → Reaches calibration s.number seen.start (take s.done s.script) seen.journal place
+pub reaches_at : (calibration : Calibration) (seen : Seen) (s : Session) (place : Place) → s.stopped ≡ false → StandsAt calibration seen s place → Reaches calibration s.number seen.start.state (take s.done s.script) seen.journal place
 reaches_at calibration seen s place is stands = let P : Bool → Type 0 = λ b. StandsBy calibration seen s.number s.script s.done b place in subst P is stands.1
 
 -- A session begins where its course does.
 pub begun_at : (calibration : Calibration) (seen : Seen) (s : Session) → s.done ≡ 0 → s.stopped ≡ false → s.standing.version ≡ None → Shows s.standing (entrance_of s.number) → AreFit s.script → IsFresh s.number seen → IsAt calibration seen s
 begun_at calibration seen s none run closed shows ready fresh =
     let entrance = entrance_of s.number in
-    let D : ℕ → Type 0 = λ n. Reaches calibration s.number seen.start (take n s.script) seen.journal entrance in
-    let reach = subst D (sym none) (reach_others calibration s.number seen.start [] [] seen.journal entrance (reach_begin calibration s.number seen.start) fresh.others tt) in
+    let D : ℕ → Type 0 = λ n. Reaches calibration s.number seen.start.state (take n s.script) seen.journal entrance in
+    let reach = subst D (sym none) (reach_others calibration s.number seen.start.state [] [] seen.journal entrance (reach_begin calibration s.number seen.start.state) fresh.others tt) in
     record {
       models = fresh.models;
+      capacity = fresh.capacity;
       start = fresh.start;
       legal = fresh.legal;
       ready = ready;
@@ -59,6 +61,7 @@ same_at calibration seen old new same done shows at =
     let stands = at.stands.1 in
     record {
       models = at.models;
+      capacity = at.capacity;
       start = at.start;
       legal = at.legal;
       ready = subst (λ ls. AreFit ls) (sym same.script) at.ready;
@@ -79,8 +82,8 @@ done_stands calibration seen old new line p same run here none shows done stands
     let q = done_at calibration (state_of seen) line.number line.command p in
     let leads : (rest : List Line) → settled calibration (state_of seen) (line ∷ rest) p ≡ settled calibration (state_of seen) rest q =
     λ rest. ap (λ a. cond (is_some a) (record p { left = line ∷ rest }) (settled calibration (state_of seen) rest q)) none in
-    let reach = reach_done calibration old.number seen.start (take old.done old.script) (line ∷ []) seen.journal p q (reaches_at calibration seen old p run stands) leads in
-    let R : List Line → Type 0 = λ ls. Reaches calibration old.number seen.start ls seen.journal q in
+    let reach = reach_done calibration old.number seen.start.state (take old.done old.script) (line ∷ []) seen.journal p q (reaches_at calibration seen old p run stands) leads in
+    let R : List Line → Type 0 = λ ls. Reaches calibration old.number seen.start.state ls seen.journal q in
     let B : Bool → Type 0 = λ b. StandsBy calibration seen old.number old.script (old.done + 1) b q in
     let kept = keeps-done_at calibration (state_of seen) line.number line.command p in (
       record { shows = shows; stopped = same.stopped ∙ stands.0.stopped ∙ sym kept.stopped },
@@ -97,6 +100,7 @@ done_next calibration seen old new line same run here none shows done at =
     let more = slice_get_within old.script old.done line here in
     record {
       models = at.models;
+      capacity = at.capacity;
       start = at.start;
       legal = at.legal;
       ready = subst (λ ls. AreFit ls) (sym same.script) at.ready;

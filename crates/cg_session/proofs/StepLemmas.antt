@@ -17,7 +17,8 @@ use Rattle.cg_sharing.specs.Pieces as piece
 use Rattle.cg_sharing.specs.Pieces.{Print, Piece, prints_in, prints_of}
 use Rattle.cg_sharing.specs.Course.{Calibration, Place, act_of, grid_of, with_grid, event_in, scene_by, print_piece, model_piece, done_at, answered, stopped_at}
 use Rattle.cg_sharing.proofs.PieceLemmas.{prints_of-append}
-use Rattle.cg_book.specs.Plain.{Seen, state_of}
+use Rattle.cg_book.specs.Plain.{state_of}
+use Rattle.cg_session.specs.Port.{Seen}
 use Rattle.cg_session.specs.declared.session.Session.{Session}
 use Rattle.cg_session.specs.declared.session.Progress.{Progress}
 use Rattle.cg_session.specs.declared.session.Progress.TheVariants.{Ended, Stopped, Moved}
@@ -62,16 +63,17 @@ done_piece calibration state number command.Model place = (model_piece state num
 done_piece calibration state number command.Work place = (piece.Work, refl, refl)
 done_piece calibration state number other place = (piece.Refused number cause.NotOpen, refl, refl)
 
--- An answer tells one piece, and no marginal.
-answered_piece : (line : Line) (answer : Answer) (place : Place) → (p : Piece) × ((answered line answer place).written ≡ place.written ++ p ∷ []) × (prints_of (p ∷ []) ≡ [])
-answered_piece line (journal.At version) place = (piece.At version, refl, refl)
-answered_piece line (journal.Made version) place = (piece.Made version, refl, refl)
-answered_piece line (journal.Committed version) place = (piece.Committed version, refl, refl)
-answered_piece line journal.NoModel place = (piece.Refused line.number cause.NoModel, refl, refl)
-answered_piece line (journal.NoVersion count) place = (piece.Refused line.number (cause.NoVersion count), refl, refl)
-answered_piece line journal.NoParent place = (piece.Refused line.number cause.NoParent, refl, refl)
-answered_piece line (journal.Refused fault) place = (piece.Refused line.number (cause.Fault fault), refl, refl)
-answered_piece line (journal.Moved head) place = (piece.Refused line.number (cause.Moved head), refl, refl)
+-- An answer tells one piece or none, and no marginal.
+answered_piece : (line : Line) (answer : Answer) (place : Place) → (more : List Piece) × ((answered line answer place).written ≡ place.written ++ more) × (prints_of more ≡ [])
+answered_piece line (journal.At version) place = (piece.At version ∷ [], refl, refl)
+answered_piece line (journal.Made version) place = (piece.Made version ∷ [], refl, refl)
+answered_piece line (journal.Committed version) place = (piece.Committed version ∷ [], refl, refl)
+answered_piece line journal.NoModel place = (piece.Refused line.number cause.NoModel ∷ [], refl, refl)
+answered_piece line (journal.NoVersion count) place = (piece.Refused line.number (cause.NoVersion count) ∷ [], refl, refl)
+answered_piece line journal.NoParent place = (piece.Refused line.number cause.NoParent ∷ [], refl, refl)
+answered_piece line (journal.Refused fault) place = (piece.Refused line.number (cause.Fault fault) ∷ [], refl, refl)
+answered_piece line (journal.Moved head) place = (piece.Refused line.number (cause.Moved head) ∷ [], refl, refl)
+answered_piece line (journal.Told reply) place = ([], sym (append-nil place.written), refl)
 
 -- what is said of an Err
 pub on_err : {A E : Type 0} (result : Result A E) {X : Type 0} → X → OnErr result X
@@ -148,13 +150,13 @@ counts_settled calibration seen now alone old new before s t line act spare resu
     let shown = counts.stands.0.shows in
     let told = answered_piece line answer p in
     let C : Progress → Type 0 = λ r. Counts calibration now r old new before t in
-    let printed : prints_of (counts.more ++ told.0 ∷ []) ≡ prints_of counts.more =
-    prints_of-append counts.more (told.0 ∷ []) ∙ ap (λ prints. prints_of counts.more ++ prints) told.2 ∙ append-nil (prints_of counts.more) in
+    let printed : prints_of (counts.more ++ told.0) ≡ prints_of counts.more =
+    prints_of-append counts.more told.0 ∙ ap (λ prints. prints_of counts.more ++ prints) told.2 ∙ append-nil (prints_of counts.more) in
     let moved : Counts calibration now Moved old new before t = record {
       place = answered line answer p;
       stands = answered_stands calibration seen now s t line act answer grows.others p run at here (is p shown) grows.theirs grows.start grows.journal number script came.1 came.2 (came.3 line here named p shown) counts.stands;
-      more = counts.more ++ told.0 ∷ [];
-      written = told.1 ∙ ap (λ written. written ++ told.0 ∷ []) counts.written ∙ append_assoc before.written counts.more (told.0 ∷ []);
-      ticks = subst (λ prints. new ≤ old + ticks_in prints) (sym (append-nil (prints_of (counts.more ++ told.0 ∷ [])) ∙ printed)) (counted calibration seen old new before s counts);
+      more = counts.more ++ told.0;
+      written = told.1 ∙ ap (λ written. written ++ told.0) counts.written ∙ append_assoc before.written counts.more told.0;
+      ticks = subst (λ prints. new ≤ old + ticks_in prints) (sym (append-nil (prints_of (counts.more ++ told.0)) ∙ printed)) (counted calibration seen old new before s counts);
     } in
     subst C (sym came.0) moved

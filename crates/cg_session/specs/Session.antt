@@ -1,10 +1,12 @@
 -- Where the code's session is in its course.
 use Rattle.std.specs.Prelude.{◌≡◌, ℕ, ◌-◌, ◌<◌, ◌≤◌, List, [], ◌++◌, length, take, slice_get, Bool, MatchBool, false, Some, vec_len, vec_capacity}
 use Rattle.cg_sharing.specs.Command.{Line}
-use Rattle.cg_sharing.specs.Versions.{StartModel, start_of}
-use Rattle.cg_sharing.specs.Journal.{Act, Answer, Entry, IsLegal}
+use Rattle.cg_sharing.specs.Versions.{StartModel}
+use Rattle.cg_sharing.specs.Journal.{Act, Answer, Entry, shared_of, IsLegal}
 use Rattle.cg_sharing.specs.Course.{Calibration, Place, act_of, AreOthers, IsRunning, IsEnded, IsStopped, Reaches, AreFit}
-use Rattle.cg_book.specs.Plain.{Seen, state_of, asked}
+use Rattle.cg_book.specs.Plain.{state_of}
+use Rattle.cg_book.specs.Replies.{question_in}
+use Rattle.cg_session.specs.Port.{Seen}
 use Rattle.cg_session.specs.declared.session.Session.{Session}
 use Rattle.cg_session.specs.declared.session.Progress.{Progress}
 use Rattle.cg_session.specs.declared.session.Progress.TheVariants.{Moved, Ended, Stopped}
@@ -38,24 +40,26 @@ abbrev pub StandsAt : Calibration → Seen → Session → Place → Type 0
 StandsAt calibration seen session place =
     IsIn session place
     × MatchBool session.stopped
-    (IsStopped calibration session.number seen.start session.script seen.journal place)
-    (Reaches calibration session.number seen.start (take session.done session.script) seen.journal place)
+    (IsStopped calibration session.number seen.start.state session.script seen.journal place)
+    (Reaches calibration session.number seen.start.state (take session.done session.script) seen.journal place)
 
 abbrev pub Stands : Calibration → Seen → Session → Type 0
 Stands calibration seen session = (place : Place) × StandsAt calibration seen session place
 
--- What a seat has seen that has made no entry yet: a legal journal, over the versions of models.
+-- What a seat has seen that has made no entry yet: a legal journal, over the versions of models and a cache.
 pub record IsFresh (seat : ℕ) (seen : Seen) : Type 0 where
   pub models : List StartModel
-  pub start : seen.start ≡ start_of models
+  pub capacity : ℕ
+  pub start : seen.start ≡ shared_of models capacity
   pub legal : IsLegal seen.start seen.journal
   pub others : AreOthers seat seen.journal
 
 -- The session is at a state of the course of its script, by what its seat has seen: a legal journal, over the versions
--- of models.
+-- of models and a cache.
 pub record IsAt (calibration : Calibration) (seen : Seen) (session : Session) : Type 0 where
   pub models : List StartModel
-  pub start : seen.start ≡ start_of models
+  pub capacity : ℕ
+  pub start : seen.start ≡ shared_of models capacity
   pub legal : IsLegal seen.start seen.journal
   pub ready : AreFit session.script
   pub within : session.done ≤ length session.script
@@ -73,7 +77,7 @@ pub record IsSame (old new : Session) : Type 0 where
 pub record IsPrepared (next : Asked) (session : Session) : Type 0 where
   pub line : Line
   pub here : slice_get session.script session.done ≡ Some line
-  pub act : (place : Place) → Shows session.standing place → act_of place line.command ≡ Some (asked next.act)
+  pub act : (place : Place) → Shows session.standing place → act_of place line.command ≡ Some (question_in next.question)
   pub spare : IsSpare line.command next.spare
   pub room : HasRoom session.standing.transcript 64
   pub base : vec_len session.standing.bases < vec_capacity session.standing.bases
@@ -92,7 +96,7 @@ pub record Ends (calibration : Calibration) (old new : Seen) (after : Session) :
   pub same : new ≡ old
   pub place : Place
   pub here : IsIn after place
-  pub running : IsRunning calibration after.number new.start after.script new.journal place
+  pub running : IsRunning calibration after.number new.start.state after.script new.journal place
   pub ended : IsEnded place
 
 -- No entry of the seat came, and want of memory has stopped the session.
@@ -104,7 +108,7 @@ pub record Stops (calibration : Calibration) (alone : Type 0) (old new : Seen) (
   pub journal : new.journal ≡ old.journal ++ others
   pub place : Place
   pub here : IsIn after place
-  pub stopped : IsStopped calibration after.number new.start after.script new.journal place
+  pub stopped : IsStopped calibration after.number new.start.state after.script new.journal place
 
 -- what a call of `advance` did
 abbrev pub Came : Calibration → Progress → Type 0 → Seen → Seen → Session → Session → Type 0

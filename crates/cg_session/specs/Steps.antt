@@ -9,7 +9,8 @@ use Rattle.cg_sharing.specs.Command.{Command, Line}
 use Rattle.cg_sharing.specs.Versions.{State}
 use Rattle.cg_sharing.specs.Pieces.{Print, Piece, Marginal, Ranges, prints_in, prints_of}
 use Rattle.cg_sharing.specs.Course.{Calibration, Place, print_piece}
-use Rattle.cg_book.specs.Plain.{Seen, state_of}
+use Rattle.cg_book.specs.Plain.{state_of}
+use Rattle.cg_session.specs.Port.{Seen}
 use Rattle.cg_session.specs.declared.session.Session.{Session}
 use Rattle.cg_session.specs.declared.session.Progress.{Progress}
 use Rattle.cg_session.specs.declared.session.Progress.TheVariants.{Stopped}

@@ -1,16 +1,19 @@
-ghost use Rattle.std.specs.Prelude.{◌≡◌, ◌<◌, ◌≤◌, ◌+◌, length, slice_get, Some, true, false, vec_len, vec_capacity, IfOk, OnOk, OnErr, MatchOption};
+ghost use Rattle.std.specs.Prelude.{◌≡◌, ℕ, ◌<◌, ◌≤◌, ◌+◌, length, slice_get, Some, true, false, vec_len, vec_capacity, IfOk, OnOk, OnErr, MatchOption};
 ghost use Rattle.cg_sharing.specs.Command as spec;
+ghost use Rattle.cg_sharing.specs.Journal.{Act};
 ghost use Rattle.cg_sharing.specs.Course.{Calibration, Place, answered, AreFit};
 ghost use Rattle.cg_report.specs.Transcript.{text_of, transcript_of};
 ghost use Rattle.cg_recipe.specs.Recipe.{recipe};
 ghost use Rattle.cg_book.specs.Plain as book;
-ghost use Rattle.cg_book.specs.Plain.{Seen, state_of, Carries};
+ghost use Rattle.cg_book.specs.Plain.{state_of, IsOfVersions};
+ghost use Rattle.cg_session.specs.Port.{Seen, Carries};
 
 use crate::port::Port;
 use crate::standing::{Standing, spare_of};
 use crate::transcript::Transcript;
-use cg_book::{Event, Reply};
+use cg_book::{Question, Reply};
 use cg_curve::Curves;
+use cg_message::Message;
 use cg_model::Name;
 use cg_num::NoMemory;
 use cg_script::Script;
@@ -29,10 +32,10 @@ pub enum Progress {
     Stopped,
 }
 
-// An act to be made, with a spare name for its answer.
+// What is to be asked of the versions, with a spare name for the answer.
 #[derive(Drop)]
 pub(crate) struct Asked {
-    pub act: Event,
+    pub question: Question,
     pub spare: Option<Name>,
 }
 
@@ -104,10 +107,10 @@ impl Session {
     {
         while self.done < self.script.len() {
             let (line, command) = self.script.get(self.done);
-            if let Some(act) = self.standing.act(alloc, command)? {
+            if let Some(question) = self.standing.question(alloc, command)? {
                 let spare = spare_of(alloc, command)?;
                 self.standing.make_room()?;
-                return Ok(Some(Asked { act, spare }));
+                return Ok(Some(Asked { question, spare }));
             }
             self.standing.run(alloc, line, command, curves, steps)?;
             self.done += 1;
@@ -116,14 +119,15 @@ impl Session {
     }
 
     // Takes the answer to the act of the next line.
-    fn settle(&mut self, spare: Option<Name>, reply: Reply) -> Progress
+    fn settle(&mut self, spare: Option<Name>, reply: Reply<Message>) -> Progress
+        requires told { IsOfVersions reply }
         requires within { self.old.done < length self.old.script }
         requires few { length self.old.script ≤ 1000 }
         requires room { HasRoom self.old.standing.transcript 64 }
         requires base { vec_len self.old.standing.bases < vec_capacity self.old.standing.bases }
         ensures same { (self.new.number ≡ self.old.number) × (self.new.script ≡ self.old.script) }
-        ensures text { (seen : Seen) → HasText (state_of seen) self.old.standing.version → Carries seen reply
-            → HasText (state_of seen) self.new.standing.version }
+        ensures text { (seen : Seen) (seat : ℕ) (act : Act) → HasText (state_of seen) self.old.standing.version
+            → Carries seen seat act reply → HasText (state_of seen) self.new.standing.version }
         ensures came { MatchOption (book.answered reply)
             ((result ≡ Progress.Stopped) × (self.new.stopped ≡ true) × (self.new.done ≡ self.old.done)
             × ((place : Place) → Shows self.old.standing place → Shows self.new.standing place))
@@ -161,6 +165,7 @@ impl Session {
         ensures seat { Q.seat port.new ≡ Q.seat port.old }
         ensures alone { Q.alone port.old → Q.alone port.new }
         ensures start { (Q.seen port.new).start ≡ (Q.seen port.old).start }
+        ensures origin { (Q.seen port.new).origin ≡ (Q.seen port.old).origin }
         ensures at { IsAt (calibration_of curves.now) (Q.seen port.new) self.new }
         ensures came { Came (calibration_of curves.now) result (Q.alone port.old) (Q.seen port.old) (Q.seen port.new)
             self.old self.new }
@@ -173,8 +178,9 @@ impl Session {
             return Progress::Stopped;
         }
         match self.prepare(alloc, curves, steps) {
-            Ok(Some(Asked { act, spare })) => {
-                let reply = port.event(alloc, act);
+            Ok(Some(Asked { question, spare })) => {
+                let event = question.event();
+                let reply = port.event(alloc, event);
                 self.settle(spare, reply)
             }
             Ok(None) => Progress::Ended,

@@ -3,20 +3,25 @@ ghost use Rattle.std.specs.Option.{ForSome};
 ghost use Rattle.cg_marginal.specs.Marginal.{pairs_of};
 ghost use Rattle.cg_sharing.specs.Command as spec;
 ghost use Rattle.cg_sharing.specs.Versions.{State, head_of};
+ghost use Rattle.cg_sharing.specs.Journal.{Act};
 ghost use Rattle.cg_sharing.specs.Pieces as piece;
 ghost use Rattle.cg_sharing.specs.Pieces.{Print, Piece, prints_in};
 ghost use Rattle.cg_sharing.specs.Course.{Place, act_of, with_piece, with_grid, grid_of, print_piece, model_piece, done_at, with_base, bases_after, answered, IsFit};
 ghost use Rattle.cg_script.specs.Command.{command_in};
 ghost use Rattle.cg_book.specs.Plain as book;
 ghost use Rattle.cg_session.specs.Standing.{base_in, IsSpare};
-ghost use Rattle.cg_book.specs.Plain.{Seen, state_of, asked, Carries};
+ghost use Rattle.cg_book.specs.Plain.{state_of, IsOfVersions};
+ghost use Rattle.cg_book.specs.Replies.{question_in};
+ghost use Rattle.cg_session.specs.Port.{Seen, Carries};
 
 use crate::cover::curve_number;
 use crate::search::event_in;
 use crate::transcript::Transcript;
-use cg_book::{Event, Reply};
+use cg_book::{Question, Reply};
+use cg_cache::Ticket;
 use cg_curve::Curves;
 use cg_marginal::Marginal;
+use cg_message::Message;
 use cg_model::{Grid, ModelTree, Name};
 use cg_num::{NoMemory, Year};
 use cg_report::{SessionCause, grid_line, marginal_lines, model_lines, ranges_lines, work_line};
@@ -114,27 +119,27 @@ impl Standing {
     ghost use Rattle.cg_session.specs.Transcript.{HasRoom};
 
     /// The act of a command, if it makes one here.
-    pub fn act(&self, alloc: Global, command: &Command) -> Result<Option<Event>, NoMemory>
-        ensures { IfOk result (λ act. (place : Place) → Shows self.now place
-            → option_map asked act ≡ act_of place (command_in command.now)) }
+    pub fn question(&self, alloc: Global, command: &Command) -> Result<Option<Question>, NoMemory>
+        ensures { IfOk result (λ question. (place : Place) → Shows self.now place
+            → option_map question_in question ≡ act_of place (command_in command.now)) }
     {
         match command {
             Command::Grid(_, _) | Command::Print(_) | Command::Ranges(_) => Ok(None),
             Command::Model | Command::Work => Ok(None),
-            Command::Open(name) => Ok(Some(Event::Head(name.copy(alloc)?))),
-            Command::Take(version) => Ok(Some(Event::Take(*version))),
+            Command::Open(name) => Ok(Some(Question::Head(name.copy(alloc)?))),
+            Command::Take(version) => Ok(Some(Question::Take(*version))),
             Command::Undo => match &self.version {
-                Some(at) => Ok(Some(Event::Undo(at.number))),
+                Some(at) => Ok(Some(Question::Undo(at.number))),
                 None => Ok(None),
             },
             Command::Change(edit) => match &self.version {
-                Some(at) => Ok(Some(Event::Change(at.number, edit.copy(alloc)?))),
+                Some(at) => Ok(Some(Question::Change(at.number, edit.copy(alloc)?))),
                 None => Ok(None),
             },
             Command::Commit(name) => match &self.version {
                 Some(at) => {
                     let base = base_of(&self.bases, name);
-                    Ok(Some(Event::Commit(name.copy(alloc)?, base, at.number)))
+                    Ok(Some(Question::Commit(name.copy(alloc)?, base, at.number)))
                 }
                 None => Ok(None),
             },
@@ -370,7 +375,8 @@ impl Standing {
 
     /// Takes the answer to a command's act, and says whether there was one: want of memory is none, and then all
     /// stays. Takes no memory.
-    pub fn answer(&mut self, line: u32, spare: Option<Name>, reply: Reply) -> bool
+    pub fn answer(&mut self, line: u32, spare: Option<Name>, reply: Reply<Message>) -> bool
+        requires told { IsOfVersions reply }
         requires line { HasRoom self.old.transcript 64 }
         requires base { vec_len self.old.bases < vec_capacity self.old.bases }
         ensures came { result ≡ is_some (book.answered reply) }
@@ -378,7 +384,8 @@ impl Standing {
             → MatchOption (book.answered reply) (Shows self.new place)
             (λ a. (command : spec.Command) → IsSpare command spare
             → Shows self.new (answered (record { number = line; command = command }) a place)) }
-        ensures version { (seen : Seen) → HasText (state_of seen) self.old.version → Carries seen reply
+        ensures version { (seen : Seen) (seat : ℕ) (act : Act) → HasText (state_of seen) self.old.version
+            → Carries seen seat act reply
             → HasText (state_of seen) self.new.version }
     {
         match reply {
@@ -408,6 +415,12 @@ impl Standing {
             }
             Reply::Moved(head) => self.transcript.refuse(line, &SessionCause::Moved(head)),
             Reply::NoMemory => return false,
+            Reply::Mine(ticket) => {
+                let Ticket { .. } = ticket;
+                unreachable!()
+            }
+            Reply::Hit(_) | Reply::Busy(_) | Reply::NoRoom => unreachable!(),
+            Reply::Published | Reply::Returned => unreachable!(),
         }
         true
     }

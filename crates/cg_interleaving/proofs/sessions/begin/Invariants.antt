@@ -1,6 +1,8 @@
-use Rattle.std.proofs.Common.{◌≡◌, ◌++◌, [], false, map, List}
+use Rattle.std.proofs.Common.{◌≡◌, ℕ, ◌++◌, [], false, map, List}
 use Rattle.std.specs.List.{list_any}
-use Rattle.cg_sharing.specs.Versions.{StartModel, start_of}
+use Rattle.cg_curve.specs.Curves.{NamedCurve}
+use Rattle.cg_sharing.specs.Versions.{StartModel}
+use Rattle.cg_sharing.specs.Journal.{shared_of}
 use Rattle.cg_sharing.specs.Course.{Calibration}
 use Rattle.cg_session.specs.Session.{script_of, is_stopped}
 use Rattle.cg_interleaving.specs.Taking.{AreAt}
@@ -11,6 +13,6 @@ abbrev pub invariant-loop-script : goal.invariant-loop-script
 invariant-loop-script l = record {
   whole : l.yielded ++ l.script-iterator.rest.items ≡ l.fn.scripts.items;
   read : map script_of l.list.items ≡ l.yielded;
-  at : (calibration : Calibration) (models : List StartModel) → AreAt calibration record { start = start_of models; journal = [] } 1 l.list.items;
+  at : (calibration : Calibration) (models : List StartModel) (capacity : ℕ) (curves : List NamedCurve) → AreAt calibration record { start = shared_of models capacity; journal = []; origin = curves } 1 l.list.items;
   going : list_any is_stopped l.list.items ≡ false;
 }

@@ -44,7 +44,7 @@ returns-in-Ok-run_sessions-clause-done g c = λ e.
     let asks : AreWords words c.in-Ok-Some.request = rw c.in-Ok-Some.field-0-is at c.in-Ok-Some.ensures.some in
     subst (λ journal. IsDone words told (g.K.Sink.taken c.args.out.now) (g.K.Sink.taken c.write_run.new.out) journal c.write_run.result.taken) (sym c.write_run.ensures.journal)
     (done words told c.in-Ok-Some.request (inputs_in c.in-Ok.inputs) c.in-Ok-run_sessions.run' (record { asks = asks; files = c.in-Ok.ensures.inputs })
-    (turns_same (inputs_in c.in-Ok.inputs) _ _ c.turns.ensures.turns c.in-Ok-run_sessions.run' c.in-Ok-run_sessions.ensures)
+    (turns_same (inputs_in c.in-Ok.inputs) _ _ _ _ c.cache-capacity.ensures.cache c.turns.ensures.turns c.in-Ok-run_sessions.run' c.in-Ok-run_sessions.ensures)
     c.recipes_are_right.ensures c.ranges_cover.ensures c.prints_are_founded.ensures _ _ _ (c.write_run.ensures.done e))
 
 pub returns-in-Ok-run_sessions-clause-write_fault : goal.returns-in-Ok-run_sessions-clause-write_fault
@@ -54,7 +54,7 @@ returns-in-Ok-run_sessions-clause-write_fault g c = λ e.
     let cut = c.write_run.ensures.cut_off e in (
       subst (λ journal. IsCutOff words told (g.K.Sink.taken c.args.out.now) (g.K.Sink.taken c.write_run.new.out) journal c.write_run.result.taken) (sym c.write_run.ensures.journal)
           (cut_off words told c.in-Ok-Some.request (inputs_in c.in-Ok.inputs) c.in-Ok-run_sessions.run' (record { asks = asks; files = c.in-Ok.ensures.inputs })
-          (turns_same (inputs_in c.in-Ok.inputs) _ _ c.turns.ensures.turns c.in-Ok-run_sessions.run' c.in-Ok-run_sessions.ensures)
+          (turns_same (inputs_in c.in-Ok.inputs) _ _ _ _ c.cache-capacity.ensures.cache c.turns.ensures.turns c.in-Ok-run_sessions.run' c.in-Ok-run_sessions.ensures)
           c.recipes_are_right.ensures c.ranges_cover.ensures c.prints_are_founded.ensures _ _ _ cut.0 cut.1),
       cut.2,
     )
@@ -67,7 +67,7 @@ returns-in-Ok-run_sessions-clause-no_memory g c = λ e.
       | inl all ↦
           inl (subst (λ journal. HasStopped words told (g.K.Sink.taken c.args.out.now) (g.K.Sink.taken c.write_run.new.out) journal c.write_run.result.taken) (sym c.write_run.ensures.journal)
           (stopped words told c.in-Ok-Some.request (inputs_in c.in-Ok.inputs) c.in-Ok-run_sessions.run' (record { asks = asks; files = c.in-Ok.ensures.inputs })
-          (turns_same (inputs_in c.in-Ok.inputs) _ _ c.turns.ensures.turns c.in-Ok-run_sessions.run' c.in-Ok-run_sessions.ensures)
+          (turns_same (inputs_in c.in-Ok.inputs) _ _ _ _ c.cache-capacity.ensures.cache c.turns.ensures.turns c.in-Ok-run_sessions.run' c.in-Ok-run_sessions.ensures)
           c.recipes_are_right.ensures c.ranges_cover.ensures c.prints_are_founded.ensures _ _ _ all))
       | inr none ↦ inr none
     ]
@@ -84,4 +84,4 @@ returns-in-Ok-run_sessions-clause-journal g c =
     let asks : AreWords words c.in-Ok-Some.request = rw c.in-Ok-Some.field-0-is at c.in-Ok-Some.ensures.some in
     inr (subst (λ journal. IsJournal words told journal) (sym c.write_run.ensures.journal)
     (journal_of words told c.in-Ok-Some.request (inputs_in c.in-Ok.inputs) c.in-Ok-run_sessions.run' (record { asks = asks; files = c.in-Ok.ensures.inputs })
-    (turns_same (inputs_in c.in-Ok.inputs) _ _ c.turns.ensures.turns c.in-Ok-run_sessions.run' c.in-Ok-run_sessions.ensures) c.recipes_are_right.ensures c.ranges_cover.ensures c.prints_are_founded.ensures))
+    (turns_same (inputs_in c.in-Ok.inputs) _ _ _ _ c.cache-capacity.ensures.cache c.turns.ensures.turns c.in-Ok-run_sessions.run' c.in-Ok-run_sessions.ensures) c.recipes_are_right.ensures c.ranges_cover.ensures c.prints_are_founded.ensures))

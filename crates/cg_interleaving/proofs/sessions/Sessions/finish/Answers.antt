@@ -1,4 +1,5 @@
 use Rattle.std.proofs.Common.{◌∙◌, Bool, subst, arith}
+use Rattle.std.specs.Arc.{arc_value}
 use Rattle.cg_session.specs.Calibration.{calibration_of}
 use Rattle.cg_interleaving.specs.Taking.{HasTurned}
 use Rattle.cg_interleaving.proofs.EndLemmas.{same_length}
@@ -9,7 +10,7 @@ pub loop-alloc-preserved : goal.loop-alloc-preserved
 loop-alloc-preserved g c =
     let was = c.loop-alloc.invariant in
     let step = c.advance.ensures in
-    let calibration = calibration_of c.args.curves.now in
+    let calibration = calibration_of (arc_value c.args.curves.now) in
     record {
       can = step.can;
       same = step.same ∙ was.same;
@@ -25,7 +26,7 @@ pub returns-clause-taken : goal.returns-clause-taken
 returns-clause-taken g c =
     let was = c.loop-alloc.invariant in
     let step = c.advance.ensures in
-    let calibration = calibration_of c.args.curves.now in
+    let calibration = calibration_of (arc_value c.args.curves.now) in
     let count = same_length c.advance.new.self.list.items c.args.self.now.list.items (step.same ∙ was.same) in
     λ world here.
     let has = was.taken world here in

@@ -1,4 +1,5 @@
 use Rattle.std.proofs.Common.{◌∙◌, ℕ, suc, ◌+◌, ◌≡◌, subst, sym, arith}
+use Rattle.std.specs.Arc.{arc_value}
 use Rattle.cg_session.specs.Calibration.{calibration_of}
 use Rattle.cg_interleaving.specs.Taking.{HaveRunOut}
 use Rattle.cg_interleaving.proofs.EndLemmas.{same_length}
@@ -9,7 +10,7 @@ pub loop-place-preserved : goal.loop-place-preserved
 loop-place-preserved g c =
     let was = c.loop-place.invariant in
     let step = c.finish.ensures in
-    let calibration = calibration_of c.args.curves.now in
+    let calibration = calibration_of (arc_value c.args.curves.now) in
     let place = c.loop-place.place in
     record {
       can = step.can;
@@ -28,4 +29,4 @@ returns-clause-taken g c =
     let was = c.loop-place.invariant in
     let count = same_length c.loop-place.self.list.items c.args.self.now.list.items was.same in
     λ world here.
-    all_out (calibration_of c.args.curves.now) c.loop-place.place world c.loop-place.self (was.taken world here) (omega (arith, count, c.loop-place-test.false, c.len-place-end.ensures, c.args.self.now.list.ok.0))
+    all_out (calibration_of (arc_value c.args.curves.now)) c.loop-place.place world c.loop-place.self (was.taken world here) (omega (arith, count, c.loop-place-test.false, c.len-place-end.ensures, c.args.self.now.list.ok.0))

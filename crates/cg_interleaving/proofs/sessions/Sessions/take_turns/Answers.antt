@@ -1,5 +1,6 @@
 use Rattle.std.proofs.Common.{◌∙◌, ◌<◌, List, ℕ, length, take, subst, sym, arith}
 use Rattle.std.proofs.lemmas.List.{take_more}
+use Rattle.std.specs.Arc.{arc_value}
 use Rattle.cg_session.specs.Calibration.{calibration_of}
 use Rattle.cg_interleaving.specs.Taking.{HaveTaken}
 use Rattle.cg_interleaving.proofs.FinishLemmas.{more_taken}
@@ -9,7 +10,7 @@ pub loop-number-preserved : goal.loop-number-preserved
 loop-number-preserved g c =
     let was = c.loop-number.invariant in
     let step = c.turn.ensures in
-    let calibration = calibration_of c.args.curves.now in
+    let calibration = calibration_of (arc_value c.args.curves.now) in
     let turns = c.args.turns.now in
     let within : c.loop-number.number-index < length turns = omega arith in
     record {

@@ -1,4 +1,5 @@
 use Rattle.std.proofs.Common.{◌≤◌, ◌+◌, length, arith}
+use Rattle.std.specs.Arc.{arc_value}
 use Rattle.cg_session.specs.Calibration.{calibration_of}
 use Rattle.cg_interleaving.proofs.FinishLemmas.{passed}
 use Rattle.cg_interleaving.proofs.sessions.Sessions.turn.Goals.{else-number-ge1-via-then-number-ge1+else-number-len, else-number-ge1-via-else-number-ge1}
@@ -12,4 +13,4 @@ returns-else-number-ge1-clause-taken g c =
       | else-number-ge1-via-then-number-ge1+else-number-len w ↦ λ some. omega (arith, w.if-number-len.false, w.len.ensures, all.list.ok.0)
       | else-number-ge1-via-else-number-ge1 w ↦ λ some. absurd (omega (arith, some, w.if-number-ge1.false))
     ] in
-    λ world here. passed (calibration_of c.args.curves.now) world all c.args.number past here
+    λ world here. passed (calibration_of (arc_value c.args.curves.now)) world all c.args.number past here

@@ -2,7 +2,8 @@ use Rattle.std.proofs.Common.{rules, ◌≡◌, ◌∙◌, option_map, refl, sym
 use Rattle.cg_sharing.specs.Command.{Line}
 use Rattle.cg_script.specs.Command.{command_in}
 use Rattle.cg_sharing.specs.Course.{Place, act_of}
-use Rattle.cg_book.specs.Plain.{asked, state_of}
+use Rattle.cg_book.specs.Plain.{state_of}
+use Rattle.cg_book.specs.Replies.{question_in}
 use Rattle.cg_session.specs.declared.session.Session.{Session}
 use Rattle.cg_session.specs.declared.session.Progress.TheVariants.{Stopped}
 use Rattle.cg_session.specs.Calibration.{calibration_of}
@@ -23,12 +24,12 @@ loop-self-preserved g c =
       at = λ seen run start.
           let at = c.loop-self.invariant.at seen run start in
           done_next (calibration_of c.args.curves.now) seen c.loop-self.self _ line (record { number = refl; script = refl; stopped = refl; version = c.in_ok-run.ensures.version }) (before.stopped ∙ run) c.get-line.ensures.line
-          (λ place shows. sym (c.in_ok-act.ensures place shows) ∙ ap (λ e. option_map asked e) c.in_default.is)
+          (λ place shows. sym (c.in_ok-question.ensures place shows) ∙ ap (λ e. option_map question_in e) c.in_default.is)
           (λ place shows. c.in_ok-run.ensures.ok (state_of seen) place at.text shows) refl at;
       counts = λ seen start run was stands.
           let at = c.loop-self.invariant.at seen run was in
           counts_done (calibration_of c.args.curves.now) seen c.args.steps.now c.loop-self.steps _ start c.loop-self.self _ line (record { number = refl; script = refl; stopped = refl; version = c.in_ok-run.ensures.version }) (before.stopped ∙ run)
-          c.get-line.ensures.line (λ place shows. sym (c.in_ok-act.ensures place shows) ∙ ap (λ e. option_map asked e) c.in_default.is) (λ place shows. c.in_ok-run.ensures.ok (state_of seen) place at.text shows) refl
+          c.get-line.ensures.line (λ place shows. sym (c.in_ok-question.ensures place shows) ∙ ap (λ e. option_map question_in e) c.in_default.is) (λ place shows. c.in_ok-run.ensures.ok (state_of seen) place at.text shows) refl
           (λ place shows. c.in_ok-run.ensures.ticks (state_of seen) place at.text shows) (c.loop-self.invariant.counts seen start run was stands);
     }
 
@@ -38,12 +39,12 @@ returns-in-Some-clause-next g c =
     let line : Line = record { number = c.get-line.result.0; command = command_in c.get-line.result.1.now } in
     let old = c.loop-self.self.standing in
     let new = c.make_room.new.self in
-    let act : (place : Place) → Shows new place → act_of place line.command ≡ Some (asked c.in-Some.act) = λ place shows.
-    sym (c.in_ok-act.ensures place (was_shown old new place room.text room.version room.grid room.bases shows)) ∙ ap (λ e. option_map asked e) c.in-Some.is in
+    let act : (place : Place) → Shows new place → act_of place line.command ≡ Some (question_in c.in-Some.question) = λ place shows.
+    sym (c.in_ok-question.ensures place (was_shown old new place room.text room.version room.grid room.bases shows)) ∙ ap (λ e. option_map question_in e) c.in-Some.is in
     record { line = line; here = c.get-line.ensures.line; act = act; spare = c.in_ok-spare.ensures; room = room.line; base = room.base; few = search rules }
 
-pub returns-in_err-act-clause-cut : goal.returns-in_err-act-clause-cut
-returns-in_err-act-clause-cut g c =
+pub returns-in_err-question-clause-cut : goal.returns-in_err-question-clause-cut
+returns-in_err-question-clause-cut g c =
     on_err c.from_residual.result (λ seen place run at stands.
     let counts = c.loop-self.invariant.counts seen place run at stands in
     counts_on (calibration_of c.args.curves.now) seen seen Stopped c.args.steps.now c.loop-self.steps place counts.place c.loop-self.self c.loop-self.self counts refl counts.stands)

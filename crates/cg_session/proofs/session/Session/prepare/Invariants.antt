@@ -1,5 +1,5 @@
 use Rattle.std.proofs.Common.{◌≡◌, ◌≤◌, ◌-◌, false, length}
-use Rattle.cg_book.specs.Plain.{Seen}
+use Rattle.cg_session.specs.Port.{Seen}
 use Rattle.cg_session.specs.Calibration.{calibration_of}
 use Rattle.cg_sharing.specs.Course.{Place}
 use Rattle.cg_session.specs.declared.session.Progress.TheVariants.{Ended}
