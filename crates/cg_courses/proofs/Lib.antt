@@ -1,0 +1,11 @@
+pub mod HeldLemmas
+pub mod CourseLemmas
+pub mod ReachLemmas
+pub mod StopLemmas
+pub mod TurnLemmas
+pub mod RunLemmas
+pub mod InterleavingLemmas
+pub mod TakenLemmas
+pub mod ClosedLemmas
+pub mod CourseCases
+pub mod ClaimCases

@@ -1,0 +1,4 @@
+pub mod Pieces
+pub mod Course
+pub mod Interleaving
+pub mod Taken
